@@ -1,0 +1,6 @@
+pub mod States
+pub mod Entries
+pub mod Soundness
+pub mod Lookup
+pub mod Counts
+pub mod Making

@@ -1,0 +1,141 @@
+// The board: 64 rows by value, two options and the next LinkId candidate.
+use octets::CallReference;
+use octets::LinkId;
+ghost use mathlib.Core.Path.{_≡_};
+ghost use Rattle.board.specs.Making.{emptyRow, emptyBoard, unmade, fresh as freshBoard};
+
+// 0 outgoing, 1 incoming.
+pub enum Direction {
+    Outgoing,
+    Incoming,
+}
+
+// The call states of ETS 300 102-1 that a served call can have: 3, 4, 7 and 10.
+pub enum CallState {
+    OutgoingCallProceeding,
+    CallDelivered,
+    CallReceived,
+    Active,
+}
+
+// The auxiliary states, 0 to 3.
+pub enum AuxiliaryState {
+    Idle,
+    HoldRequest,
+    CallHeld,
+    RetrieveRequest,
+}
+
+pub enum OptionalLinkId {
+    Absent,
+    Present(LinkId),
+}
+
+// A call of a far party with the served user.
+pub struct Call {
+    pub reference: CallReference,
+    pub direction: Direction,
+    pub state: CallState,
+    pub auxiliary: AuxiliaryState,
+    pub link: OptionalLinkId,
+}
+
+// The standing of a row: empty, a call with the served user, or joined with the leg of a partner.
+pub enum Standing {
+    Empty,
+    Served(Call),
+    Joined { partner: u32, alerting: bool },
+}
+
+// A row: the leg number of a far party, its presentation (0 shown, 1 restricted), its digits, and its standing.
+pub struct Row {
+    pub leg: u32,
+    pub presentation: u8,
+    pub count: u8,
+    pub digits: [u8; 15],
+    pub standing: Standing,
+}
+
+// Octets, so that a board may hold any and soundness speaks of them.
+pub struct Options {
+    pub subscribed: u8,
+    pub alerting: u8,
+}
+
+pub struct Board {
+    pub rows: [Row; 64],
+    pub options: Options,
+    pub candidate: LinkId,
+}
+
+// What making a board returns: 0 and the board, or 5 and the empty board with both options 0.
+pub struct Made {
+    pub returned: u8,
+    pub board: Board,
+}
+
+// What lookup answers: 0 and a place, or 9 and place 0.
+pub enum Found {
+    At(usize),
+    Nothing,
+}
+
+// What the count answers: 0 and the three counts, or 2 and zeros.
+pub enum Counted {
+    Counts {
+        legs: usize,
+        pairs: usize,
+        links: usize,
+    },
+    Unsound,
+}
+
+fn empty_row() -> Row
+    ensures { λ r. ⌜ r ≡ emptyRow ⌝ }
+{
+    Row {
+        leg: 0,
+        presentation: 0,
+        count: 0,
+        digits: [0u8; 15],
+        standing: Standing::Empty,
+    }
+}
+
+fn empty_board(options: Options) -> Board
+    ensures { λ r. ⌜ r ≡ emptyBoard options ⌝ }
+{
+    let row = empty_row();
+    Board {
+        rows: [row; 64],
+        options,
+        candidate: LinkId(0),
+    }
+}
+
+// A fresh board of two option octets, each 0 or 1.
+pub fn fresh(subscribed: u8, alerting: u8) -> Made
+    ensures { λ r. ⌜ r ≡ freshBoard subscribed alerting ⌝ }
+{
+    if 1 < subscribed {
+        return refused();
+    }
+    if 1 < alerting {
+        return refused();
+    }
+    let board = empty_board(Options {
+        subscribed,
+        alerting,
+    });
+    Made { returned: 0, board }
+}
+
+fn refused() -> Made
+    ensures { λ r. ⌜ r ≡ unmade ⌝ }
+{
+    let board = empty_board(Options {
+        subscribed: 0,
+        alerting: 0,
+    });
+    Made { returned: 5, board }
+}
