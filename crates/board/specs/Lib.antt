@@ -4,3 +4,4 @@ pub mod Soundness
 pub mod Lookup
 pub mod Counts
 pub mod Making
+pub mod Changes

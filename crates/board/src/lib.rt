@@ -68,6 +68,18 @@ pub struct Board {
     pub candidate: LinkId,
 }
 
+// A change that an accepted event makes to rows that are taken: of the call with a reference its call state,
+// its auxiliary state or its LinkId; two legs joined; a leg's alerting ended; a leg's row emptied, or a pair's.
+pub enum Change {
+    SetState(CallReference, CallState),
+    SetAuxiliary(CallReference, AuxiliaryState),
+    SetLinkId(CallReference, LinkId),
+    Join(u32, u32),
+    EndAlerting(u32),
+    Release(u32),
+    ReleasePair(u32, u32),
+}
+
 // What making a board returns: 0 and the board, or 5 and the empty board with both options 0.
 pub struct Made {
     pub returned: u8,
