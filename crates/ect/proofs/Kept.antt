@@ -266,7 +266,7 @@ free-is-free (suc n) y used {z} e = go (any (sameLinkId y) used) refl e (free-is
     go true h e f = f e
     go false h e f = let d : y ≡ z = cc in subst (λ (w : ℤ). any (sameLinkId w) used ≡ false) d h
 
-live-any : (z : ℤ) (es : List Entry) → any (sameLinkId z) (live (calls es)) ≡ any (hasLinkId z) es
+pub live-any : (z : ℤ) (es : List Entry) → any (sameLinkId z) (live (calls es)) ≡ any (hasLinkId z) es
 live-any z [] = refl
 live-any z (e ∷ es) = go (e .leg) (e .connection) (live-any z es)
   where
@@ -278,7 +278,7 @@ live-any z (e ∷ es) = go (e .leg) (e .connection) (live-any z es)
     go n (WithUser c) h = link (linkIdIn (c .link)) h
     go n (WithPartner p a) h = h
 
-live-length : (es : List Entry) → length (live (calls es)) ≡ linkIds es
+pub live-length : (es : List Entry) → length (live (calls es)) ≡ linkIds es
 live-length [] = refl
 live-length (e ∷ es) = go (e .leg) (e .connection) (live-length es)
   where

@@ -7,3 +7,6 @@ pub mod Presence
 pub mod Partner
 pub mod Errors
 pub mod WholeHistory
+pub mod Room
+pub mod Situations
+pub mod Examples
