@@ -7,34 +7,30 @@ use mathlib.Core.Logic.{_⊎_, inr, inl}
 use mathlib.Core.Bool.{_&&_, _||_, false, true, not, Bool, cond}
 use mathlib.Core.List.{_∷_, List, []}
 use mathlib.Core.Option.{none, some, Option}
-use lib.Dec.{eqb, leb, ltb}
+use lib.Dec.{eqb, ltb}
 use lib.ListN.{length}
 use lib.IntN.{ℤ, pos, negsuc}
 use Rattle.board.specs.Changes.{full}
-use Rattle.board.specs.Entries.{Party, isLinkId, Entry, hasLeg, hasReference, calls, Connection, WithUser, WithPartner, taken, linkIds}
+use Rattle.board.specs.Entries.{Party, Entry, taken, linkIds, calls}
 use Rattle.board.specs.LinkIds.{freeLinkId, unlessLive}
 use Rattle.board.specs.Making.{options, fresh, emptyBoard, unmade}
 use Rattle.board.specs.Soundness.{sound, validOptions}
-use Rattle.board.specs.States.{holdable}
 use Rattle.board.specs.declared.Board.{Board}
 use Rattle.board.specs.declared.Made.{Made}
 use Rattle.board.specs.declared.Options.{Options}
-use Rattle.component.specs.Reading.{after, reading}
-use Rattle.component.specs.declared.Operation.{Operation}
-use Rattle.component.specs.declared.Operation.the-variants.{EctExecute, ExplicitEctExecute, EctLinkIdRequest}
-use Rattle.component.specs.declared.Reading.{Reading}
-use Rattle.component.specs.declared.Reading.the-variants.{Ignored, Rejected, Invoked}
+use Rattle.ect.proofs.Decided.{ComesTo, silent, respond, assigned, transferred, Decided, refuses, opens-leg, sets-state, sets-auxiliary, releases, serves, ends-alerting, decided}
 use Rattle.ect.proofs.Kept.{live-length}
-use Rattle.ect.specs.Checks.{decide, decideOpen, OpenLeg, opened, named, SetState, Refuse, decideProgress, mayProgress, SetAuxiliary, decideHold, mayHold, entryAt, decideRelease, decideFacility, decideAlerting, decideAnswer, refusalNumber}
-use Rattle.ect.specs.EventRecords.{Request, Malformed, Open, Progress, Hold, Release, Facility, Answer, request}
+use Rattle.ect.specs.Checks.{Decision, refusalNumber}
+use Rattle.ect.specs.EventRecords.{Request, request}
 use Rattle.ect.specs.History.{Event, stepped, boardAt}
 use Rattle.ect.specs.Replies.{octets}
-use Rattle.ect.specs.Serving.{live, Service, Silent, Respond, AssignLinkId, Transfer, serve, execute, error, executeExplicitly, partnerFor, assign, linkIdRequest, perform, partyLinkId}
-use Rattle.ect.specs.Step.{step, serviceCandidate, candidateAfter, boardAfter, decision, Outcome, refused, done}
-use Rattle.ect.specs.declared.Refusal.the-variants.{NotPermitted, BufferTooSmall, UnsoundBoard}
+use Rattle.ect.specs.Serving.{live, Service}
+use Rattle.ect.specs.Situations.{after}
+use Rattle.ect.specs.Step.{step, serviceCandidate, decision, candidateAfter, boardAfter, Outcome, refused, done}
+use Rattle.ect.specs.declared.Refusal.the-variants.{BufferTooSmall, UnsoundBoard}
 use Rattle.octets.proofs.Lists.{true-not-false, eqb-of, eqb-eq, test, neither, both, any-has, any-of, mem-keep, or-false, left, right, is-not}
 use Rattle.octets.proofs.SameLinkId.{sameLinkId-eq}
-use Rattle.octets.specs.Lists.{all, any, distinct, keep, consIf, only, find}
+use Rattle.octets.specs.Lists.{all, any, distinct, keep, consIf}
 use Rattle.octets.specs.Numbers.{nextLinkId, sameLinkId}
 use Rattle.octets.specs.declared.LinkId.{LinkId}
 use Rattle.ect.specs.declared.Refusal.the-variants as refusal
@@ -198,105 +194,21 @@ free-small (suc n) z used {y} h e = go (any (sameLinkId z) used) e (free-small n
     go true e f = f e
     go false e f = let d : z ≡ y = cc in subst Small d h
 
-abbrev SmallService : Service → Type 0
-SmallService Silent = Unit {0}
-SmallService (Respond a) = Unit {0}
-SmallService (AssignLinkId l i) = Small (l .0)
-SmallService (Transfer p q i) = Unit {0}
+service-small : {opt : Options} {ps : List Party} {p : Party} {v : Service} (z : LinkId) → Small (z .0) → ComesTo opt (z .0) ps p v → Small (serviceCandidate v z .0)
+service-small z h silent = h
+service-small z h (respond a) = h
+service-small {ps} z h (assigned {y = y} i e k) = next-small y (free-small 16 (z .0) (live ps) h e)
+service-small z h (transferred i m k) = h
 
-serve-small : (opt : Options) (z : ℤ) (ps : List Party) (p : Party) (r : Reading) → Small z → SmallService (serve opt z ps p r)
-unfolding serve
-serve-small opt z ps p Ignored h = tt
-serve-small opt z ps p (Rejected r) h = tt
-serve-small opt z ps p (Invoked i o) h = on (eqb (opt .subscribed) 1)
-  where
-    exec : (q : Option Party) → SmallService (execute p i q)
-    exec none = tt
-    exec (some q) = tt
-
-    choose : (b : Bool) (q : Party) → SmallService (cond b (Transfer p q i) (error i 7))
-    choose true q = tt
-    choose false q = tt
-
-    expl : (q : Option Party) → SmallService (executeExplicitly opt p i q)
-    expl none = tt
-    expl (some q) = choose (partnerFor opt p q) q
-
-    given : (o : Option ℤ) → freeLinkId 16 z (live ps) ≡ o → SmallService (assign i o)
-    given none e = tt
-    given (some y) e = free-small 16 z (live ps) h e
-
-    new : (b : Bool) → SmallService (cond b (error i 11) (assign i (freeLinkId 16 z (live ps))))
-    new true = tt
-    new false = given (freeLinkId 16 z (live ps)) refl
-
-    link : (o : Option ℤ) → SmallService (linkIdRequest z (live ps) i o)
-    link none = new (leb 16 (length (live ps)))
-    link (some y) = tt
-
-    does : (o : Operation) → SmallService (perform opt z ps p i o)
-    does EctExecute = exec (only (keep (partnerFor opt p) ps))
-    does (ExplicitEctExecute l) = expl (find (λ (q : Party). isLinkId (l .0) (partyLinkId q)) ps)
-    does EctLinkIdRequest = link (partyLinkId p)
-
-    on : (b : Bool) → SmallService (cond b (perform opt z ps p i o) (error i 0))
-    on true = does o
-    on false = tt
-
-candidate-small : (z : LinkId) (v : Service) → Small (z .0) → SmallService v → Small (serviceCandidate v z .0)
-candidate-small z Silent h k = h
-candidate-small z (Respond a) h k = h
-candidate-small z (AssignLinkId l i) h k = next-small (l .0) k
-candidate-small z (Transfer p q i) h k = h
-
-decide-small : (opt : Options) (z : LinkId) (w : Bool) (es : List Entry) (q : Request) → Small (z .0) → Small (candidateAfter (decide opt (z .0) w es q) z .0)
-unfolding decide candidateAfter
-decide-small opt z w es (Malformed c) h = h
-decide-small opt z w es (Open r l d p n ds) h = go (any (hasLeg l) es) (any (hasReference r) es) w
-  where
-    go : (x y v : Bool) → Small (candidateAfter (decideOpen x y v (OpenLeg l (opened r d) p n ds)) z .0)
-    go true y v = h
-    go false true v = h
-    go false false true = h
-    go false false false = h
-decide-small opt z w es (Progress r t) h = go (named r es)
-  where
-    by : (b : Bool) → Small (candidateAfter (cond b (SetState r t) (Refuse refusal.NotPermitted)) z .0)
-    by true = h
-    by false = h
-
-    go : (o : Option Party) → Small (candidateAfter (decideProgress r t o) z .0)
-    go none = h
-    go (some p) = by (mayProgress (p .call .state) t)
-decide-small opt z w es (Hold r x) h = go (named r es)
-  where
-    by : (b : Bool) → Small (candidateAfter (cond b (SetAuxiliary r x) (Refuse refusal.NotPermitted)) z .0)
-    by true = h
-    by false = h
-
-    go : (o : Option Party) → Small (candidateAfter (decideHold r x o) z .0)
-    go none = h
-    go (some p) = by (holdable (p .call .state) && mayHold (p .call .auxiliary) x)
-decide-small opt z w es (Release l) h = go (entryAt l es)
-  where
-    go : (o : Option Entry) → Small (candidateAfter (decideRelease o) z .0)
-    go none = h
-    go (some e) = h
-decide-small opt z w es (Facility r c) h = go (named r es)
-  where
-    go : (o : Option Party) → Small (candidateAfter (decideFacility opt (z .0) es c o) z .0)
-    go none = h
-    go (some p) = candidate-small z (serve opt (z .0) (calls es) p (reading c)) h (serve-small opt (z .0) (calls es) p (reading c) h)
-decide-small opt z w es (Answer l) h = go (entryAt l es)
-  where
-    by : (t : Connection) → Small (candidateAfter (decideAlerting l t) z .0)
-    by (WithUser c) = h
-    by (WithPartner p true) = h
-    by (WithPartner p false) = h
-
-    go : (o : Option Entry) → Small (candidateAfter (decideAnswer l o) z .0)
-    go none = h
-    go (some e) = by (e .connection)
+decision-small : {opt : Options} {w : Bool} {es : List Entry} {q : Request} {d : Decision} (z : LinkId) → Small (z .0) → Decided opt (z .0) w es q d → Small (candidateAfter d z .0)
+unfolding candidateAfter
+decision-small z h (refuses c) = h
+decision-small z h (opens-leg e f g) = h
+decision-small z h (sets-state e f) = h
+decision-small z h (sets-auxiliary e f) = h
+decision-small z h (releases m f) = h
+decision-small z h (serves m v) = service-small z h v
+decision-small z h ends-alerting = h
 
 step-small : (b : Board) (e : Event) → Small (b .candidate .0) → Small (stepped b e .board .candidate .0)
 unfolding step boardAfter decision
@@ -304,7 +216,7 @@ step-small b e h = go (ltb (e .room) 128) (sound b)
   where
     go : (x y : Bool) → Small ((cond {A = Outcome} x (refused (refusalNumber refusal.BufferTooSmall) b) (cond y (done (e .order) b (decision b (e .octets))) (refused (refusalNumber refusal.UnsoundBoard) b))) .board .candidate .0)
     go true y = h
-    go false true = decide-small (b .options) (b .candidate) (full (b .rows)) (taken (b .rows)) (request (e .octets)) h
+    go false true = decision-small (b .candidate) h (decided (b .options) (b .candidate .0) (full (b .rows)) (taken (b .rows)) (request (e .octets)))
     go false false = h
 
 list-small : (b : Board) (list : List Event) → Small (b .candidate .0) → Small (boardAt b list .candidate .0)

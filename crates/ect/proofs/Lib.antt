@@ -1,3 +1,4 @@
+pub mod Decided
 pub mod Order
 pub mod Kept
 pub mod Rows

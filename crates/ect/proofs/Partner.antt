@@ -6,36 +6,31 @@ use mathlib.Core.Logic.{_⊎_, inl, inr}
 use mathlib.Core.Bool.{_&&_, _||_, cond, Bool, not, true, false}
 use mathlib.Core.List.{_++_, _∷_, List, [], List·Memᴰ, List·Memᴰ·tail, map, List·Memᴰ·head}
 use mathlib.Core.Option.{Option, some, none}
-use lib.Dec.{T, eqb, leb, ltb}
+use lib.Dec.{T, eqb, ltb, leb}
 use lib.ListN.{length}
 use lib.IntN.{ℤ}
 use Rattle.board.proofs.Soundness.{legs-one, Sound, one-leg}
 use Rattle.board.specs.Changes.{withLinkId, enter, withState, withAuxiliary}
-use Rattle.board.specs.Entries.{Entry, WithPartner, WithUser, Connection, isPartner, calls, Party, isLinkId, hasLeg, hasReference, taken}
-use Rattle.board.specs.LinkIds.{freeLinkId}
+use Rattle.board.specs.Entries.{entry, Entry, WithPartner, WithUser, Connection, isPartner, Party, calls, hasLeg, taken}
 use Rattle.board.specs.Making.{options}
-use Rattle.board.specs.States.{delivered, holdable}
+use Rattle.board.specs.States.{delivered}
 use Rattle.board.specs.declared.Board.{Board}
 use Rattle.board.specs.declared.Call.{Call}
 use Rattle.board.specs.declared.Options.{Options}
-use Rattle.component.specs.Reading.{reading}
-use Rattle.component.specs.declared.Operation.{Operation}
-use Rattle.component.specs.declared.Operation.the-variants.{EctExecute, ExplicitEctExecute, EctLinkIdRequest}
-use Rattle.component.specs.declared.Reading.{Reading}
-use Rattle.component.specs.declared.Reading.the-variants.{Ignored, Rejected, Invoked}
 use Rattle.ect.proofs.Agreement.{next, Together}
-use Rattle.ect.proofs.Kept.{entry, entry-path, party-mem, mate-of}
+use Rattle.ect.proofs.Decided.{ComesTo, silent, respond, assigned, transferred, Decided, refuses, opens-leg, sets-state, sets-auxiliary, releases, serves, ends-alerting, decided, refusal-not-0}
+use Rattle.ect.proofs.Kept.{entry-path, party-mem, mate-of}
 use Rattle.ect.proofs.Presence.{stay-leg, opensAt, endsAt, seen-next, together-sound, Unended, unended-head}
 use Rattle.ect.specs.Book.{Book, bookDecision, mapConnection, changeCall, endAlerting, stays, joinLegs, entriesAfter, serviceEntries, bookStep, bookAfter, bookRules}
-use Rattle.ect.specs.Checks.{Decision, Refuse, OpenLeg, SetState, SetAuxiliary, ReleaseLeg, ServeCall, EndAlerting, opened, decide, decideOpen, named, decideProgress, mayProgress, decideHold, mayHold, entryAt, decideRelease, decideFacility, isNamed, decideAlerting, decideAnswer, returnedBy, refusalNumber}
-use Rattle.ect.specs.EventRecords.{Open, Release, Request, Malformed, Progress, Hold, Facility, Answer, request}
+use Rattle.ect.specs.Checks.{Decision, Refuse, OpenLeg, SetState, SetAuxiliary, ReleaseLeg, ServeCall, EndAlerting, opened, returnedBy}
+use Rattle.ect.specs.EventRecords.{Request, request}
 use Rattle.ect.specs.History.{Event, booked, bookAt, HasRow, Partners, joinsTo, opensLeg, transferOf}
 use Rattle.ect.specs.Replies.{octets}
-use Rattle.ect.specs.Serving.{Service, Silent, Respond, AssignLinkId, Transfer, serve, partnerFor, execute, error, partyLinkId, executeExplicitly, assign, linkIdRequest, live, perform}
-use Rattle.ect.specs.declared.Refusal.the-variants.{NotPermitted, BufferTooSmall}
-use Rattle.octets.proofs.Lists.{mem-map, mem-keep, keep-mem, only-mem, find-mem, eqb-eq, eqb-self, eqb-sym, any-map, right, left, small-one, mem-perm, p-sym, any-of, test, true-not-false, or-right, both, is-true}
-use Rattle.octets.specs.Lists.{keep, only, find, any}
-use Rattle.octets.specs.declared.LinkId.{LinkId}
+use Rattle.ect.specs.Serving.{Service, Silent, Respond, AssignLinkId, Transfer}
+use Rattle.ect.specs.Situations.{call}
+use Rattle.ect.specs.declared.Refusal.the-variants.{BufferTooSmall}
+use Rattle.octets.proofs.Lists.{mem-map, mem-keep, eqb-eq, eqb-self, eqb-sym, any-map, right, left, small-one, mem-perm, p-sym, any-of, test, true-not-false, or-right, both, is-true}
+use Rattle.octets.specs.Lists.{keep, any}
 use Rattle.ect.specs.declared.Refusal.the-variants as refusal
 
 -- ---- the partner, worked out from event to event
@@ -83,52 +78,6 @@ shape-keep : (e₀ : Entry) (es : List Entry) (l : ℕ) (o : Option ℕ) → not
 shape-keep e₀ es l none k h = (h .0, mem-keep (stays e₀) (h .1) k)
 shape-keep e₀ es l (some m) k h = (h .0, mem-keep (stays e₀) (h .1) k)
 
--- the two parties of a transfer are calls of the entries
-abbrev pub Based : List Entry → Service → Type 0
-Based es Silent = Unit {0}
-Based es (Respond c) = Unit {0}
-Based es (AssignLinkId z i) = Unit {0}
-Based es (Transfer x y i) = List·Memᴰ x (calls es) × List·Memᴰ y (calls es)
-
-based : (es : List Entry) (z : ℤ) (p : Party) → List·Memᴰ p (calls es) → (opt : Options) (r : Reading) → Based es (serve opt z (calls es) p r)
-unfolding serve
-based es z p mp opt Ignored = tt
-based es z p mp opt (Rejected i) = tt
-based es z p mp opt (Invoked i o) = on (eqb (opt .subscribed) 1) o
-  where
-    exec : (q : Option Party) → only (keep (partnerFor opt p) (calls es)) ≡ q → Based es (execute p i q)
-    exec none h = tt
-    exec (some q) h = (mp, keep-mem (partnerFor opt p) (calls es) (only-mem (keep (partnerFor opt p) (calls es)) h) .0)
-
-    pick-one : (b : Bool) (q : Party) → List·Memᴰ q (calls es) → Based es (cond b (Transfer p q i) (error i 7))
-    pick-one true q m = (mp, m)
-    pick-one false q m = tt
-
-    expl : (y : LinkId) (q : Option Party) → find (λ (q : Party). isLinkId (y .0) (partyLinkId q)) (calls es) ≡ q → Based es (executeExplicitly opt p i q)
-    expl y none h = tt
-    expl y (some q) h = pick-one (partnerFor opt p q) q (find-mem (λ (q : Party). isLinkId (y .0) (partyLinkId q)) (calls es) h .0)
-
-    giving : (o : Option ℤ) → Based es (assign i o)
-    giving none = tt
-    giving (some y) = tt
-
-    new : (b : Bool) (o : Option ℤ) → Based es (cond b (error i 11) (assign i o))
-    new true o = tt
-    new false o = giving o
-
-    link : (o : Option ℤ) → Based es (linkIdRequest z (live (calls es)) i o)
-    link none = new (leb 16 (length (live (calls es)))) (freeLinkId 16 z (live (calls es)))
-    link (some y) = tt
-
-    does : (o : Operation) → Based es (perform opt z (calls es) p i o)
-    does EctExecute = exec (only (keep (partnerFor opt p) (calls es))) refl
-    does (ExplicitEctExecute y) = expl y (find (λ (q : Party). isLinkId (y .0) (partyLinkId q)) (calls es)) refl
-    does EctLinkIdRequest = link (partyLinkId p)
-
-    on : (b : Bool) (o : Operation) → Based es (cond b (perform opt z (calls es) p i o) (error i 0))
-    on true o = does o
-    on false o = tt
-
 shape-join : (es : List Entry) (x y : Party) → List·Memᴰ x (calls es) → List·Memᴰ y (calls es) → (l : ℕ) (now : Option ℕ) → any (hasLeg l) es ≡ true → (any (hasLeg l) es ≡ true → Shape es l now) →
     Shape (map (mapConnection (joinLegs (x .leg) (y .leg))) es) l (cond (eqb l (x .leg)) (some (y .leg)) (cond (eqb l (y .leg)) (some (x .leg)) now))
 shape-join es x y mx my l now on inv = go (eqb l (x .leg)) (eqb l (y .leg)) refl refl
@@ -161,66 +110,29 @@ module _ (l : ℕ) (es : List Entry) (now : Option ℕ) (inv : any (hasLeg l) es
   abbrev Kept : Decision → Type 0
   Kept d = any (hasLeg l) (entriesAfter d es) ≡ true → Shape (entriesAfter d es) l (joins l d now)
 
-  service-shape : (p : Party) (v : Service) → Based es v → any (hasLeg l) (serviceEntries p v es) ≡ true → Shape (serviceEntries p v es) l (serviceJoinsFrom l v now)
-  service-shape p Silent m h = inv h
-  service-shape p (Respond c) m h = inv h
-  service-shape p (AssignLinkId z i) m h = shape-call (p .call .reference .0) (withLinkId z) es l now (inv (sym (any-map (hasLeg l) (mapConnection (changeCall (p .call .reference .0) (withLinkId z))) es) ∙ h))
-  service-shape p (Transfer x y i) m h = shape-join es x y (m .0) (m .1) l now (sym (any-map (hasLeg l) (mapConnection (joinLegs (x .leg) (y .leg))) es) ∙ h) inv
+  service-shape : {opt : Options} {z : ℤ} {p : Party} {v : Service} → List·Memᴰ p (calls es) → ComesTo opt z (calls es) p v →
+      any (hasLeg l) (serviceEntries p v es) ≡ true → Shape (serviceEntries p v es) l (serviceJoinsFrom l v now)
+  service-shape m silent h = inv h
+  service-shape m (respond a) h = inv h
+  service-shape {p} m (assigned {y = y} i e k) h =
+      shape-call (p .call .reference .0) (withLinkId (record { 0 = y })) es l now (inv (sym (any-map (hasLeg l) (mapConnection (changeCall (p .call .reference .0) (withLinkId (record { 0 = y })))) es) ∙ h))
+  service-shape {p} m (transferred {q = q} i n k) h = shape-join es p q m n l now (sym (any-map (hasLeg l) (mapConnection (joinLegs (p .leg) (q .leg))) es) ∙ h) inv
 
-  shaped : (opt : Options) (z : ℤ) (w : Bool) (q : Request) → Kept (decide opt z w es q)
-  unfolding decide entriesAfter
-  shaped opt z w (Malformed c) = inv
-  shaped opt z w (Open r m d p n ds) = go (any (hasLeg m) es) (any (hasReference r) es) w
+  shaped-by : {opt : Options} {z : ℤ} {w : Bool} {q : Request} {d : Decision} → Decided opt z w es q d → Kept d
+  unfolding entriesAfter
+  shaped-by (refuses c) = inv
+  shaped-by (opens-leg {r = r} {l = m} {d = d} e f g) = enter (eqb l m) refl
     where
       enter : (b : Bool) → eqb l m ≡ b → (b || any (hasLeg l) es) ≡ true → Shape (entry m (WithUser (opened r d)) ∷ es) l (cond b none now)
       enter true k h = (opened r d, List·Memᴰ·head (entry-path (eqb-eq l m k) refl))
       enter false k h = shape-later (entry m (WithUser (opened r d))) es l now (inv h)
-
-      go : (x y v : Bool) → Kept (decideOpen x y v (OpenLeg m (opened r d) p n ds))
-      go true y v = inv
-      go false true v = inv
-      go false false true = inv
-      go false false false = enter (eqb l m) refl
-  shaped opt z w (Progress r t) = go (named r es)
-    where
-      by : (b : Bool) → Kept (cond b (SetState r t) (Refuse refusal.NotPermitted))
-      by true = λ h. shape-call r (withState t) es l now (inv (sym (any-map (hasLeg l) (mapConnection (changeCall r (withState t))) es) ∙ h))
-      by false = inv
-
-      go : (o : Option Party) → Kept (decideProgress r t o)
-      go none = inv
-      go (some p) = by (mayProgress (p .call .state) t)
-  shaped opt z w (Hold r x) = go (named r es)
-    where
-      by : (b : Bool) → Kept (cond b (SetAuxiliary r x) (Refuse refusal.NotPermitted))
-      by true = λ h. shape-call r (withAuxiliary x) es l now (inv (sym (any-map (hasLeg l) (mapConnection (changeCall r (withAuxiliary x))) es) ∙ h))
-      by false = inv
-
-      go : (o : Option Party) → Kept (decideHold r x o)
-      go none = inv
-      go (some p) = by (holdable (p .call .state) && mayHold (p .call .auxiliary) x)
-  shaped opt z w (Release m) = go (entryAt m es)
-    where
-      go : (o : Option Entry) → Kept (decideRelease o)
-      go none = inv
-      go (some e₀) = λ h.
-          let k = sym (stay-leg l e₀ es) ∙ h in
-          shape-keep e₀ es l now (right (any (hasLeg l) es) _ k) (inv (left (any (hasLeg l) es) _ k))
-  shaped opt z w (Facility r c) = go (named r es) refl
-    where
-      go : (o : Option Party) → named r es ≡ o → Kept (decideFacility opt z es c o)
-      go none h = inv
-      go (some p) h = service-shape p (serve opt z (calls es) p (reading c)) (based es z p (find-mem (isNamed r) (calls es) h .0) opt (reading c))
-  shaped opt z w (Answer m) = go (entryAt m es)
-    where
-      connection : (t : Connection) → Kept (decideAlerting m t)
-      connection (WithUser c) = inv
-      connection (WithPartner p true) = λ h. shape-stop m es l now (inv (sym (any-map (hasLeg l) (mapConnection (endAlerting m)) es) ∙ h))
-      connection (WithPartner p false) = inv
-
-      go : (o : Option Entry) → Kept (decideAnswer m o)
-      go none = inv
-      go (some e) = connection (e .connection)
+  shaped-by (sets-state {r = r} {s = t} e k) = λ h. shape-call r (withState t) es l now (inv (sym (any-map (hasLeg l) (mapConnection (changeCall r (withState t))) es) ∙ h))
+  shaped-by (sets-auxiliary {r = r} {a = x} e k) = λ h. shape-call r (withAuxiliary x) es l now (inv (sym (any-map (hasLeg l) (mapConnection (changeCall r (withAuxiliary x))) es) ∙ h))
+  shaped-by (releases {e = e₀} m k) = λ h.
+      let i = sym (stay-leg l e₀ es) ∙ h in
+      shape-keep e₀ es l now (right (any (hasLeg l) es) _ i) (inv (left (any (hasLeg l) es) _ i))
+  shaped-by (serves m v) = service-shape m v
+  shaped-by (ends-alerting {l = m}) = λ h. shape-stop m es l now (inv (sym (any-map (hasLeg l) (mapConnection (endAlerting m)) es) ∙ h))
 
 pub shaped-next : (k : Book) (e : Event) (l : ℕ) (now : Option ℕ) → (any (hasLeg l) (k .entries) ≡ true → Shape (k .entries) l now) →
     any (hasLeg l) (booked k e .entries) ≡ true → Shape (booked k e .entries) l (joins l (bookDecision k (e .octets) (e .room)) now)
@@ -229,7 +141,7 @@ shaped-next k e l now inv = go (ltb (e .room) 128)
   where
     go : (x : Bool) → Kept l (k .entries) now inv (cond x (Refuse refusal.BufferTooSmall) (bookRules k (e .octets)))
     go true = inv
-    go false = shaped l (k .entries) now inv (k .options) (k .candidate) (leb 64 (length (k .entries))) (request (e .octets))
+    go false = shaped-by l (k .entries) now inv (decided (k .options) (k .candidate) (leb 64 (length (k .entries))) (k .entries) (request (e .octets)))
 
 pub shaped-list : (k : Book) (list : List Event) (l : ℕ) (now : Option ℕ) → (any (hasLeg l) (k .entries) ≡ true → Shape (k .entries) l now) →
     any (hasLeg l) (bookAt k list .entries) ≡ true → Shape (bookAt k list .entries) l (partnerOf k now list l)
@@ -301,64 +213,24 @@ module _ (l m : ℕ) (a₀ : Bool) (es : List Entry) (s : Sound es) (here : List
           let z : _≡_ {A = ℕ} 0 1 = cc in absurd (omega arith)
       go (inr t) = t
 
-  service-fixed : (v : Service) → Based es v → serviceJoinsFrom l v (some m) ≡ some m
-  service-fixed Silent b = refl
-  service-fixed (Respond c) b = refl
-  service-fixed (AssignLinkId z i) b = refl
-  service-fixed (Transfer x y i) b = ap₂ (λ (p q : Bool). cond p (some (y .leg)) (cond q (some (x .leg)) (some m))) (no-call x (b .0)) (no-call y (b .1))
+  service-fixed : {opt : Options} {z : ℤ} {p : Party} {v : Service} → List·Memᴰ p (calls es) → ComesTo opt z (calls es) p v → serviceJoinsFrom l v (some m) ≡ some m
+  service-fixed n silent = refl
+  service-fixed n (respond a) = refl
+  service-fixed n (assigned i e h) = refl
+  service-fixed {p} n (transferred {q = q} i k h) = ap₂ (λ (x y : Bool). cond x (some (q .leg)) (cond y (some (p .leg)) (some m))) (no-call p n) (no-call q k)
 
-  joins-fixed : (opt : Options) (z : ℤ) (w : Bool) (q : Request) → joins l (decide opt z w es q) (some m) ≡ some m
-  unfolding decide
-  joins-fixed opt z w (Malformed c) = refl
-  joins-fixed opt z w (Open r n d p k ds) = go (any (hasLeg n) es) (any (hasReference r) es) w refl
+  joins-fixed : {opt : Options} {z : ℤ} {w : Bool} {q : Request} {d : Decision} → Decided opt z w es q d → joins l d (some m) ≡ some m
+  joins-fixed (refuses c) = refl
+  joins-fixed (opens-leg {l = n} e f g) = other (eqb l n) refl
     where
-      other : (b : Bool) → eqb l n ≡ b → any (hasLeg n) es ≡ false → cond b none (some m) ≡ some m
-      other true e h = absurd (true-not-false (any-of (hasLeg n) here (eqb-sym n l ∙ e)) h)
-      other false e h = refl
-
-      go : (x y v : Bool) → any (hasLeg n) es ≡ x → joins l (decideOpen x y v (OpenLeg n (opened r d) p k ds)) (some m) ≡ some m
-      go true y v h = refl
-      go false true v h = refl
-      go false false true h = refl
-      go false false false h = other (eqb l n) refl h
-  joins-fixed opt z w (Progress r t) = go (named r es)
-    where
-      by : (b : Bool) → joins l (cond b (SetState r t) (Refuse refusal.NotPermitted)) (some m) ≡ some m
-      by true = refl
-      by false = refl
-
-      go : (o : Option Party) → joins l (decideProgress r t o) (some m) ≡ some m
-      go none = refl
-      go (some p) = by (mayProgress (p .call .state) t)
-  joins-fixed opt z w (Hold r x) = go (named r es)
-    where
-      by : (b : Bool) → joins l (cond b (SetAuxiliary r x) (Refuse refusal.NotPermitted)) (some m) ≡ some m
-      by true = refl
-      by false = refl
-
-      go : (o : Option Party) → joins l (decideHold r x o) (some m) ≡ some m
-      go none = refl
-      go (some p) = by (holdable (p .call .state) && mayHold (p .call .auxiliary) x)
-  joins-fixed opt z w (Release n) = go (entryAt n es)
-    where
-      go : (o : Option Entry) → joins l (decideRelease o) (some m) ≡ some m
-      go none = refl
-      go (some e) = refl
-  joins-fixed opt z w (Facility r c) = go (named r es) refl
-    where
-      go : (o : Option Party) → named r es ≡ o → joins l (decideFacility opt z es c o) (some m) ≡ some m
-      go none h = refl
-      go (some p) h = service-fixed (serve opt z (calls es) p (reading c)) (based es z p (find-mem (isNamed r) (calls es) h .0) opt (reading c))
-  joins-fixed opt z w (Answer n) = go (entryAt n es)
-    where
-      connection : (t : Connection) → joins l (decideAlerting n t) (some m) ≡ some m
-      connection (WithUser c) = refl
-      connection (WithPartner p true) = refl
-      connection (WithPartner p false) = refl
-
-      go : (o : Option Entry) → joins l (decideAnswer n o) (some m) ≡ some m
-      go none = refl
-      go (some e) = connection (e .connection)
+      other : (b : Bool) → eqb l n ≡ b → cond b none (some m) ≡ some m
+      other true h = absurd (true-not-false (any-of (hasLeg n) here (eqb-sym n l ∙ h)) e)
+      other false h = refl
+  joins-fixed (sets-state e h) = refl
+  joins-fixed (sets-auxiliary e h) = refl
+  joins-fixed (releases n h) = refl
+  joins-fixed (serves n v) = service-fixed n v
+  joins-fixed ends-alerting = refl
 
 fixed-next : (k : Book) → Sound (k .entries) → (e : Event) (l m : ℕ) → Shape (k .entries) l (some m) → joins l (bookDecision k (e .octets) (e .room)) (some m) ≡ some m
 unfolding bookDecision bookRules
@@ -366,29 +238,17 @@ fixed-next k s e l m h = go (ltb (e .room) 128)
   where
     go : (x : Bool) → joins l (cond x (Refuse refusal.BufferTooSmall) (bookRules k (e .octets))) (some m) ≡ some m
     go true = refl
-    go false = joins-fixed l m (h .0) (k .entries) s (h .1) (k .options) (k .candidate) (leb 64 (length (k .entries))) (request (e .octets))
+    go false = joins-fixed l m (h .0) (k .entries) s (h .1) (decided (k .options) (k .candidate) (leb 64 (length (k .entries))) (k .entries) (request (e .octets)))
 
 -- an accepted Open of the leg leaves it joined to nobody
-opened-none : (l : ℕ) (es : List Entry) (opt : Options) (z : ℤ) (w : Bool) (now : Option ℕ) (q : Request) → (eqb (returnedBy (decide opt z w es q)) 0 && opensLeg l q) ≡ true → joins l (decide opt z w es q) now ≡ none
-unfolding decide
-opened-none l es opt z w now (Malformed c) h = absurd (true-not-false (right (eqb (refusalNumber c) 0) _ h) refl)
-opened-none l es opt z w now (Open r m d p n ds) h = go (any (hasLeg m) es) (any (hasReference r) es) w h
-  where
-    mine : (b : Bool) → b ≡ true → cond b none now ≡ none
-    mine true k = refl
-    mine false k = absurd (true-not-false k refl)
-
-    go : (x y v : Bool) → (eqb (returnedBy (decideOpen x y v (OpenLeg m (opened r d) p n ds))) 0 && eqb l m) ≡ true →
-        joins l (decideOpen x y v (OpenLeg m (opened r d) p n ds)) now ≡ none
-    go true y v k = absurd (true-not-false k refl)
-    go false true v k = absurd (true-not-false k refl)
-    go false false true k = absurd (true-not-false k refl)
-    go false false false k = mine (eqb l m) k
-opened-none l es opt z w now (Progress r t) h = absurd (true-not-false (right (eqb (returnedBy (decide opt z w es (Progress r t))) 0) false h) refl)
-opened-none l es opt z w now (Hold r x) h = absurd (true-not-false (right (eqb (returnedBy (decide opt z w es (Hold r x))) 0) false h) refl)
-opened-none l es opt z w now (Release n) h = absurd (true-not-false (right (eqb (returnedBy (decide opt z w es (Release n))) 0) false h) refl)
-opened-none l es opt z w now (Facility r c) h = absurd (true-not-false (right (eqb (returnedBy (decide opt z w es (Facility r c))) 0) false h) refl)
-opened-none l es opt z w now (Answer n) h = absurd (true-not-false (right (eqb (returnedBy (decide opt z w es (Answer n))) 0) false h) refl)
+opened-none : {opt : Options} {z : ℤ} {w : Bool} {es : List Entry} {q : Request} {d : Decision} (l : ℕ) (now : Option ℕ) → Decided opt z w es q d → eqb (returnedBy d) 0 ≡ true → opensLeg l q ≡ true → joins l d now ≡ none
+opened-none l now (refuses c) h k = absurd (true-not-false h (refusal-not-0 c))
+opened-none l now (opens-leg {l = m} e f g) h k = ap (λ (b : Bool). cond b none now) k
+opened-none l now (sets-state e f) h k = absurd (true-not-false k refl)
+opened-none l now (sets-auxiliary e f) h k = absurd (true-not-false k refl)
+opened-none l now (releases m f) h k = absurd (true-not-false k refl)
+opened-none l now (serves m v) h k = absurd (true-not-false k refl)
+opened-none l now ends-alerting h k = absurd (true-not-false k refl)
 
 pub opened-next : (k : Book) (e : Event) (l : ℕ) (now : Option ℕ) → opensAt k e l ≡ true → joins l (bookDecision k (e .octets) (e .room)) now ≡ none
 unfolding opensAt bookDecision bookRules
@@ -396,7 +256,9 @@ opened-next k e l now h = go (ltb (e .room) 128) h
   where
     go : (x : Bool) → (eqb (returnedBy (cond x (Refuse refusal.BufferTooSmall) (bookRules k (e .octets)))) 0 && opensLeg l (request (e .octets))) ≡ true → joins l (cond x (Refuse refusal.BufferTooSmall) (bookRules k (e .octets))) now ≡ none
     go true k = absurd (true-not-false k refl)
-    go false k′ = opened-none l (k .entries) (k .options) (k .candidate) (leb 64 (length (k .entries))) now (request (e .octets)) k′
+    go false h =
+        opened-none l now (decided (k .options) (k .candidate) (leb 64 (length (k .entries))) (k .entries) (request (e .octets)))
+        (left (eqb (returnedBy (bookRules k (e .octets))) 0) _ h) (right (eqb (returnedBy (bookRules k (e .octets))) 0) _ h)
 
 -- a leg that is there and not ended is there still
 pub still-there : {b : Board} {k : Book} → Together b k → (e : Event) (l : ℕ) → any (hasLeg l) (k .entries) ≡ true → T (not (endsAt k e l)) → any (hasLeg l) (booked k e .entries) ≡ true

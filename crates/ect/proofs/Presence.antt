@@ -1,32 +1,32 @@
 -- Presence: which legs the book has after a list of events.
 use Prim.Native.Nat.{ℕ}
 use native.Mathlib.Omega.{arith}
-use mathlib.Core.Path.{_∙_, refl, ap, sym, ap₂, _≡_, subst, subst⁻¹}
+use mathlib.Core.Path.{_∙_, refl, ap, sym, subst, subst⁻¹, ap₂, _≡_}
 use mathlib.Core.Logic.{_⊎_, inl, inr}
 use mathlib.Core.Bool.{_&&_, _||_, Bool, not, true, false, cond}
 use mathlib.Core.List.{_++_, _∷_, List, [], List·Memᴰ}
-use mathlib.Core.Option.{none, Option, some}
 use lib.Dec.{T, eqb, ltb, leb}
 use lib.ListN.{length}
 use lib.IntN.{ℤ}
 use Rattle.board.proofs.Soundness.{Sound, one-leg, sound-perm}
 use Rattle.board.specs.Changes.{withLinkId, withState, withAuxiliary}
-use Rattle.board.specs.Entries.{Entry, hasLeg, isPartner, Connection, WithUser, WithPartner, Party, hasReference, calls}
+use Rattle.board.specs.Entries.{Entry, hasLeg, isPartner, entry, Connection, WithUser, WithPartner, Party}
 use Rattle.board.specs.Making.{options}
-use Rattle.board.specs.States.{holdable}
 use Rattle.board.specs.declared.Board.{Board}
 use Rattle.board.specs.declared.Options.{Options}
-use Rattle.component.specs.Reading.{after, reading}
 use Rattle.ect.proofs.Agreement.{next, Together}
-use Rattle.ect.proofs.Kept.{entry, mate-of}
+use Rattle.ect.proofs.Decided.{refusal-not-0, Decided, refuses, opens-leg, sets-state, sets-auxiliary, releases, serves, ends-alerting, decided}
+use Rattle.ect.proofs.Kept.{mate-of}
 use Rattle.ect.specs.Book.{Book, stays, serviceEntries, mapConnection, changeCall, joinLegs, entriesAfter, endAlerting, bookStep, bookAfter, bookDecision, bookRules}
-use Rattle.ect.specs.Checks.{opened, Decision, returnedBy, decide, refusalNumber, decideOpen, OpenLeg, named, SetState, Refuse, decideProgress, mayProgress, SetAuxiliary, decideHold, mayHold, entryAt, decideRelease, decideFacility, decideAlerting, decideAnswer}
-use Rattle.ect.specs.EventRecords.{Open, request, Release, Request, Malformed, Progress, Hold, Facility, Answer}
+use Rattle.ect.specs.Checks.{opened, Decision, returnedBy, refusalNumber, Refuse}
+use Rattle.ect.specs.EventRecords.{request, Request}
 use Rattle.ect.specs.History.{Event, accepts, opensLeg, endsLeg, bookAt, booked, joinedWith}
 use Rattle.ect.specs.Replies.{octets}
-use Rattle.ect.specs.Serving.{Service, Silent, Respond, AssignLinkId, Transfer, serve}
-use Rattle.ect.specs.declared.Refusal.the-variants.{NotPermitted, BufferTooSmall}
-use Rattle.octets.proofs.Lists.{same-tests, any-has, keep-mem, both, any-of, eqb-eq, left, mem-keep, right, true-not-false, any-map, find-mem, or-cases, from-true, or-right, is-true, or-left}
+use Rattle.ect.specs.Serving.{Service, Silent, Respond, AssignLinkId, Transfer}
+use Rattle.ect.specs.Situations.{after, call}
+use Rattle.ect.specs.declared.Refusal.{Refusal}
+use Rattle.ect.specs.declared.Refusal.the-variants.{BufferTooSmall}
+use Rattle.octets.proofs.Lists.{same-tests, any-has, keep-mem, both, any-of, eqb-eq, left, mem-keep, right, true-not-false, any-map, or-cases, from-true, or-right, is-true, or-left}
 use Rattle.octets.specs.Lists.{any, keep}
 use Rattle.ect.specs.declared.Refusal.the-variants as refusal
 
@@ -61,10 +61,6 @@ lives k now (e ∷ es) l = lives (booked k e) (opensAt k e l || (now && not (end
 and-true : (a : Bool) → (a && true) ≡ a
 and-true true = refl
 and-true false = refl
-
-unmoved : (x a : Bool) → ((x && false) || (a && not (x && false))) ≡ a
-unmoved true a = and-true a
-unmoved false a = and-true a
 
 -- ---- presence after one event
 
@@ -112,69 +108,32 @@ service-legs l p (Respond c) es = refl
 service-legs l p (AssignLinkId z i) es = any-map (hasLeg l) (mapConnection (changeCall (p .call .reference .0) (withLinkId z))) es
 service-legs l p (Transfer x y i) es = any-map (hasLeg l) (mapConnection (joinLegs (x .leg) (y .leg))) es
 
-module _ (l : ℕ) (es : List Entry) where
-  abbrev Seen : Decision → Request → Type 0
-  Seen d q = any (hasLeg l) (entriesAfter d es) ≡ ((eqb (returnedBy d) 0 && opensLeg l q) || (any (hasLeg l) es && not (eqb (returnedBy d) 0 && endsLeg es l q)))
+-- whether the leg is there after a decision: it is opened, or was there and is not ended
+abbrev Seen : ℕ → List Entry → Request → Decision → Type 0
+Seen l es q d = any (hasLeg l) (entriesAfter d es) ≡ ((eqb (returnedBy d) 0 && opensLeg l q) || (any (hasLeg l) es && not (eqb (returnedBy d) 0 && endsLeg es l q)))
 
-  seen : (opt : Options) (z : ℤ) (w : Bool) → Sound es → (q : Request) → Seen (decide opt z w es q) q
-  unfolding decide entriesAfter
-  seen opt z w s (Malformed c) = sym (unmoved (eqb (refusalNumber c) 0) (any (hasLeg l) es))
-  seen opt z w s (Open r m d p n ds) = go (any (hasLeg m) es) (any (hasReference r) es) w
-    where
-      go : (x y v : Bool) → Seen (decideOpen x y v (OpenLeg m (opened r d) p n ds)) (Open r m d p n ds)
-      go true y v = sym (and-true (any (hasLeg l) es))
-      go false true v = sym (and-true (any (hasLeg l) es))
-      go false false true = sym (and-true (any (hasLeg l) es))
-      go false false false = ap (λ (b : Bool). eqb l m || b) (sym (and-true (any (hasLeg l) es)))
-  seen opt z w s (Progress r t) = go (named r es)
-    where
-      by : (b : Bool) → Seen (cond b (SetState r t) (Refuse refusal.NotPermitted)) (Progress r t)
-      by true = any-map (hasLeg l) (mapConnection (changeCall r (withState t))) es ∙ sym (and-true (any (hasLeg l) es))
-      by false = sym (and-true (any (hasLeg l) es))
+not-moved : (l : ℕ) (es : List Entry) (c : Refusal) (x y : Bool) → any (hasLeg l) es ≡ ((eqb (refusalNumber c) 0 && x) || (any (hasLeg l) es && not (eqb (refusalNumber c) 0 && y)))
+not-moved l es c x y = subst⁻¹ (λ (b : Bool). any (hasLeg l) es ≡ ((b && x) || (any (hasLeg l) es && not (b && y)))) (refusal-not-0 c) (sym (and-true (any (hasLeg l) es)))
 
-      go : (o : Option Party) → Seen (decideProgress r t o) (Progress r t)
-      go none = sym (and-true (any (hasLeg l) es))
-      go (some p) = by (mayProgress (p .call .state) t)
-  seen opt z w s (Hold r x) = go (named r es)
-    where
-      by : (b : Bool) → Seen (cond b (SetAuxiliary r x) (Refuse refusal.NotPermitted)) (Hold r x)
-      by true = any-map (hasLeg l) (mapConnection (changeCall r (withAuxiliary x))) es ∙ sym (and-true (any (hasLeg l) es))
-      by false = sym (and-true (any (hasLeg l) es))
-
-      go : (o : Option Party) → Seen (decideHold r x o) (Hold r x)
-      go none = sym (and-true (any (hasLeg l) es))
-      go (some p) = by (holdable (p .call .state) && mayHold (p .call .auxiliary) x)
-  seen opt z w s (Release m) = go (entryAt m es) refl
-    where
-      go : (o : Option Entry) → entryAt m es ≡ o → Seen (decideRelease o) (Release m)
-      go none h = sym (and-true (any (hasLeg l) es))
-      go (some e₀) h =
-          let f = find-mem (hasLeg m) es h in
-          stay-leg l e₀ es
-          ∙ ap₂ (λ (x y : Bool). any (hasLeg l) es && not (x || y)) (ap (eqb l) (sym (eqb-eq m (e₀ .leg) (f .1)))) (joined-same s l m e₀ (f .0) (f .1))
-  seen opt z w s (Facility r c) = go (named r es)
-    where
-      go : (o : Option Party) → Seen (decideFacility opt z es c o) (Facility r c)
-      go none = sym (and-true (any (hasLeg l) es))
-      go (some p) = service-legs l p (serve opt z (calls es) p (reading c)) es ∙ sym (and-true (any (hasLeg l) es))
-  seen opt z w s (Answer m) = go (entryAt m es)
-    where
-      connection : (t : Connection) → Seen (decideAlerting m t) (Answer m)
-      connection (WithUser c) = sym (and-true (any (hasLeg l) es))
-      connection (WithPartner p true) = any-map (hasLeg l) (mapConnection (endAlerting m)) es ∙ sym (and-true (any (hasLeg l) es))
-      connection (WithPartner p false) = sym (and-true (any (hasLeg l) es))
-
-      go : (o : Option Entry) → Seen (decideAnswer m o) (Answer m)
-      go none = sym (and-true (any (hasLeg l) es))
-      go (some e) = connection (e .connection)
+seen-by : {opt : Options} {z : ℤ} {w : Bool} {q : Request} {d : Decision} (l : ℕ) (es : List Entry) → Sound es → Decided opt z w es q d → Seen l es q d
+unfolding entriesAfter
+seen-by {q} l es s (refuses c) = not-moved l es c (opensLeg l q) (endsLeg es l q)
+seen-by l es s (opens-leg {l = m} e f g) = ap (λ (b : Bool). eqb l m || b) (sym (and-true (any (hasLeg l) es)))
+seen-by l es s (sets-state {r = r} {s = t} e h) = any-map (hasLeg l) (mapConnection (changeCall r (withState t))) es ∙ sym (and-true (any (hasLeg l) es))
+seen-by l es s (sets-auxiliary {r = r} {a = x} e h) = any-map (hasLeg l) (mapConnection (changeCall r (withAuxiliary x))) es ∙ sym (and-true (any (hasLeg l) es))
+seen-by l es s (releases {l = m} {e = e₀} i h) =
+    stay-leg l e₀ es
+    ∙ ap₂ (λ (x y : Bool). any (hasLeg l) es && not (x || y)) (ap (eqb l) (sym (eqb-eq m (e₀ .leg) h))) (joined-same s l m e₀ i h)
+seen-by l es s (serves {p = p} {v = v} m h) = service-legs l p v es ∙ sym (and-true (any (hasLeg l) es))
+seen-by l es s (ends-alerting {l = m}) = any-map (hasLeg l) (mapConnection (endAlerting m)) es ∙ sym (and-true (any (hasLeg l) es))
 
 pub seen-next : (k : Book) → Sound (k .entries) → (e : Event) (l : ℕ) → any (hasLeg l) (booked k e .entries) ≡ (opensAt k e l || (any (hasLeg l) (k .entries) && not (endsAt k e l)))
 unfolding bookStep bookAfter bookDecision bookRules opensAt endsAt entriesAfter
 seen-next k s e l = go (ltb (e .room) 128)
   where
-    go : (x : Bool) → Seen l (k .entries) (cond x (Refuse refusal.BufferTooSmall) (bookRules k (e .octets))) (request (e .octets))
+    go : (x : Bool) → Seen l (k .entries) (request (e .octets)) (cond x (Refuse refusal.BufferTooSmall) (bookRules k (e .octets)))
     go true = sym (and-true (any (hasLeg l) (k .entries)))
-    go false = seen l (k .entries) (k .options) (k .candidate) (leb 64 (length (k .entries))) s (request (e .octets))
+    go false = seen-by l (k .entries) s (decided (k .options) (k .candidate) (leb 64 (length (k .entries))) (k .entries) (request (e .octets)))
 
 pub together-sound : {b : Board} {k : Book} → Together b k → Sound (k .entries)
 together-sound t = sound-perm (t .order) (t .entries-are)

@@ -5,7 +5,7 @@ use mathlib.Core.Path.{_≡_}
 use mathlib.Core.Bool.{Bool, true, false}
 use mathlib.Core.List.{List, [], _∷_, _++_, map}
 use Rattle.octets.specs.Lists.{any}
-use Rattle.board.specs.Entries.{Connection, WithUser, WithPartner, Entry, taken, isJoined}
+use Rattle.board.specs.Entries.{Connection, WithUser, WithPartner, Entry, entry, taken, isJoined}
 use Rattle.board.specs.Making.{fresh}
 use Rattle.ect.specs.Replies.{OtherFirst}
 use Rattle.ect.specs.Book.{freshBook}
@@ -26,9 +26,6 @@ answerLeg l = event (6 ∷ 0 ∷ 0 ∷ 0 ∷ l ∷ [])
 
 abbrev pub releaseLeg : ℕ → Event
 releaseLeg l = event (4 ∷ 0 ∷ 0 ∷ 0 ∷ l ∷ [])
-
-abbrev pub entry : ℕ → Connection → Entry
-entry l c = record { leg = l; connection = c }
 
 pub record HistoryExamples : Type 0 where
   pub returned : returns (fresh 1 1 .board) transferList ≡ 0 ∷ 0 ∷ 0 ∷ 0 ∷ 0 ∷ 6 ∷ 0 ∷ 0 ∷ []

@@ -64,8 +64,8 @@ abbrev pub says : Board → List ℕ → List ℕ
 says b r = step NamedFirst b r 128 .returned ∷ octets (step NamedFirst b r 128 .replies)
 
 -- accepted, with these records
-abbrev pub accepts : List ReplyRecord → List ℕ
-accepts rs = 0 ∷ octets rs
+abbrev pub answeredBy : List ReplyRecord → List ℕ
+answeredBy rs = 0 ∷ octets rs
 
 -- f at 1 to n
 unfoldable pub upTo : ℕ → (ℕ → List ℕ) → List (List ℕ)
@@ -91,10 +91,10 @@ call s a = record { reference = record { 0 = 1 }; direction = Outgoing; state = 
 -- ---- answers to the invoke with identifier 5
 
 abbrev pub errorOn : ℕ → ℕ → List ℕ
-errorOn r e = accepts (Reply r (answer.Error (One 5) e) ∷ [])
+errorOn r e = answeredBy (Reply r (answer.Error (One 5) e) ∷ [])
 
 abbrev pub linkIdOn : ℕ → ℤ → List ℕ
-linkIdOn r z = accepts (Reply r (answer.LinkIdResult (One 5) (record { 0 = z })) ∷ [])
+linkIdOn r z = answeredBy (Reply r (answer.LinkIdResult (One 5) (record { 0 = z })) ∷ [])
 
 -- ---- the situations, one field for each line marked in document 01
 
@@ -124,7 +124,7 @@ pub record Situations : Type 0 where
   pub execute-on-the-held-one : says (heldAndIdle 3) (facilityRecord ectExecute 1) ≡ errorOn 1 7
   pub execute-on-an-idle-one :
       says (heldAndIdle 3) (facilityRecord ectExecute 2)
-      ≡ accepts (Reply 2 (answer.Result (One 5)) ∷ Drop 2 ∷ Drop 1 ∷ Tell 2 facility transferredActive (markOnly 0) 1 ∷ Tell 1 facility transferredActive (markOnly 0) 1 ∷ [])
+      ≡ answeredBy (Reply 2 (answer.Result (One 5)) ∷ Drop 2 ∷ Drop 1 ∷ Tell 2 facility transferredActive (markOnly 0) 1 ∷ Tell 1 facility transferredActive (markOnly 0) 1 ∷ [])
   -- "Buffer 127: refusal 1; 128: not."
   pub buffer-127 : step NamedFirst (heldAndIdle 2) (openRecord 3) 127 .returned ≡ 1
   pub buffer-128 : step NamedFirst (heldAndIdle 2) (openRecord 3) 128 .returned ≡ 0
