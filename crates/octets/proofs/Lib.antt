@@ -1,0 +1,2 @@
+-- Laws of LinkIds, for the proofs of this crate and of those above it.
+pub mod Laws
