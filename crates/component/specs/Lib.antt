@@ -1,3 +1,5 @@
+-- What components are read as, and the octets of the answers.
 pub mod Elements
+pub mod Readers
 pub mod Reading
 pub mod Answers

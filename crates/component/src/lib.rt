@@ -1,4 +1,6 @@
 // Components of remote operations: what an invoke asks for, and the answers to it.
+mod elements;
+
 use octets::IntegerOctets;
 use octets::LinkId;
 

@@ -1,0 +1,2 @@
+-- Laws of components, for the proofs of this crate and of those above it.
+pub mod ElementLaws
