@@ -1,2 +1,3 @@
 -- Laws of components, for the proofs of this crate and of those above it.
 pub mod ElementLaws
+pub mod ReadingLaws

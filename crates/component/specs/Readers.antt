@@ -10,6 +10,8 @@ use Rattle.component.specs.declared.elements.FirstElement.{FirstElement}
 use Rattle.component.specs.declared.elements.FirstElement.the-variants as first
 use Rattle.component.specs.declared.elements.Elements.{Elements}
 use Rattle.component.specs.declared.elements.Elements.the-variants as elements
+use Rattle.component.specs.declared.invoke.Integer.{Integer}
+use Rattle.component.specs.declared.invoke.Integer.the-variants as integer
 use Rattle.component.specs.Elements.{Element, Bad, Whole, constructed}
 
 -- the element at the front of s: two octets, contents, and the rest
@@ -35,3 +37,7 @@ checked inner (Whole tag contents rest) = cond (not (constructed tag) || inner c
 abbrev pub areWhole : Elements → Bool
 areWhole elements.Whole = true
 areWhole elements.Bad = false
+
+abbrev pub integerOctets : Integer → Option IntegerOctets
+integerOctets (integer.Whole o) = some o
+integerOctets integer.Other = none

@@ -57,9 +57,12 @@ objectReading i (some o) rest =
     (cond (sameOctets o (ectObject 0x04)) (Invoked i EctLinkIdRequest) (Rejected (Invoke i 1)))
 
 -- "Operation: local 6 EctExecute; .. Else invoke problem 1."
+abbrev pub localReading : IntegerOctets → IntegerOctets → Reading
+localReading i o = cond (sameLinkId (integerOf o) (pos 6)) (Invoked i EctExecute) (Rejected (Invoke i 1))
+
 abbrev pub operationReading : IntegerOctets → Option IntegerOctets → Element → Reading
 operationReading i none e = objectReading i (objectIn e) (after e)
-operationReading i (some o) e = cond (sameLinkId (integerOf o) (pos 6)) (Invoked i EctExecute) (Rejected (Invoke i 1))
+operationReading i (some o) e = localReading i o
 
 -- what follows the invoke identifier
 unfoldable pub identifiedReading : IntegerOctets → List ℕ → Reading

@@ -1,8 +1,11 @@
 // Components of remote operations: what an invoke asks for, and the answers to it.
 mod elements;
+mod invoke;
 
 use octets::IntegerOctets;
 use octets::LinkId;
+ghost use mathlib.Core.Path.{_≡_};
+ghost use Rattle.component.specs.Reading.{reading};
 
 // What an invoke asks for.
 pub enum Operation {
@@ -34,4 +37,24 @@ pub enum Answer {
     LinkIdNotAssigned(IntegerOctets),
     Result(IntegerOctets),
     LinkIdResult(IntegerOctets, LinkId),
+}
+
+// Reads a component of any length and content.
+pub fn read(component: &[u8]) -> Reading
+    ensures { λ r. ⌜ r ≡ reading (now (component .entry)) ⌝ }
+{
+    if component.len() == 0 {
+        return Reading::Rejected(Reject::Null(0));
+    }
+    let tag = component[0];
+    if 0xa2 <= tag {
+        if tag <= 0xa4 {
+            return Reading::Ignored;
+        }
+        return Reading::Rejected(Reject::Null(0));
+    }
+    if tag != 0xa1 {
+        return Reading::Rejected(Reject::Null(0));
+    }
+    invoke::read_framed(&component[1..])
 }

@@ -1,3 +1,4 @@
+-- `read_element` and `read_elements` meet their contracts. Assumes nothing.
 use Prim.Native.Nat.{ℕ, _<_}
 use borrow.Fn.Kinds.{In, Out}
 use borrow.Fn.PlainCycle.{Measures, is, falls, and}
@@ -12,13 +13,11 @@ use Rattle.component.proofs.elements.+read_element+read_elements.{state
 use Rattle.component.proofs.elements.+read_element+read_elements.Tie.{close}
 use Prim.Native.Nat.{_*_, _+_, _-_, _≤_}
 use native.Mathlib.Omega.{arith}
-use mathlib.Core.Path.{_≡_, sym, ap, _∙_}
-use lib.ListN.{length, take, drop, length-drop, length-take}
+use mathlib.Core.Path.{_∙_}
+use lib.ListN.{length, drop, length-drop, length-take}
 use borrow.Author.Needs.{needs}
 use borrow.Author.Tests.{eq-eqb, ne-eqb}
-use Rattle.component.specs.Elements.{firstElement, wholeElements, Whole}
-use Rattle.component.specs.Readers.{checked, areWhole}
-use Rattle.component.proofs.ElementLaws.{rest, taken, ends, missing, bad, sound, unsound, none-left, too-deep, first-bad, first-whole}
+use Rattle.component.proofs.ElementLaws.{taken, ends, missing, bad, sound, unsound, none-left, too-deep, first-bad, first-whole}
 
 abbrev μ-read-element : Measures 1 read-element-kinds.ps ℕ
 μ-read-element κs a = 2 * length (a .0 .now)
@@ -65,43 +64,33 @@ tag-ends t c = ends (c .before .before .first-element .ensures) (c .tag .given .
 len-ends : (t : ℕ) (c : At-read-elements read-elements-lts.After-len t) → c .len .given .0 .1 .0 + 2 ≤ length (c .before .before .before .before .before .before .args .s .now)
 len-ends t c = ends (c .before .before .read-element .ensures) (c .len .given .1)
 
--- src/elements.rt:44:44
 read-element-first-element-requires : (t : ℕ) → At-read-element read-element-lts.Need-first-element-requires t
 read-element-first-element-requires t c κs = search needs
 
--- src/elements.rt:44:31
 read-element-enum-known-tag : (t : ℕ) → At-read-element read-element-lts.Need-enum-known-tag t
 read-element-enum-known-tag t c = search needs
 
--- src/elements.rt:45:9
 read-element-enum-told : (t : ℕ) → At-read-element read-element-lts.Need-enum-told t
 read-element-enum-told t c = search needs
 
--- src/elements.rt:45:9
 read-element-returns : (t : ℕ) → At-read-element read-element-lts.Need-returns t
 read-element-returns t c = bad (rw (missing (c .before .before .first-element .ensures) (c .enum-told .given .1)))
 
--- src/elements.rt:48:9
 read-element-returns-2 : (t : ℕ) → At-read-element read-element-lts.Need-returns-2 t
 read-element-returns-2 t c = sound (c .before .before .before .before .first-element .ensures) _ (c .before .before .tag .given .1) (simp (ne-eqb _ _ (c .if1 .taken)))
 
--- src/elements.rt:50:47
 read-element-add-read-elements : (t : ℕ) → At-read-element read-element-lts.Need-add-read-elements t
 read-element-add-read-elements t c = omega (arith, tag-ends t (c .before .before), c .before .before .before .before .before .before .good .0 .0)
 
--- src/elements.rt:50:41
 read-element-sub-read-elements : (t : ℕ) → At-read-element read-element-lts.Need-sub-read-elements t
 read-element-sub-read-elements t c = omega arith
 
--- src/elements.rt:50:41
 read-element-part-read-elements-start : (t : ℕ) → At-read-element read-element-lts.Need-part-read-elements-start t
 read-element-part-read-elements-start t c = omega arith
 
--- src/elements.rt:50:41
 read-element-part-read-elements-end : (t : ℕ) → At-read-element read-element-lts.Need-part-read-elements-end t
 read-element-part-read-elements-end t c = tag-ends t (c .before .before)
 
--- src/elements.rt:50:27
 read-element-read-elements-requires : (t : ℕ) → At-read-element read-element-lts.Need-read-elements-requires t
 read-element-read-elements-requires t c κs =
     let s = c .before .before .before .before .before .before .before .args .s .now in
@@ -111,70 +100,54 @@ read-element-read-elements-requires t c κs =
 read-element-enum-told-2 : (t : ℕ) → At-read-element read-element-lts.Need-enum-told-2 t
 read-element-enum-told-2 t c = search needs
 
--- src/elements.rt:51:9
 read-element-enum-told-3 : (t : ℕ) → At-read-element read-element-lts.Need-enum-told-3 t
 read-element-enum-told-3 t c = search needs
 
--- src/elements.rt:51:9
 read-element-returns-3 : (t : ℕ) → At-read-element read-element-lts.Need-returns-3 t
 read-element-returns-3 t c = unsound (c .before .before .before .before .before .before .before .before .first-element .ensures) _ (c .before .before .before .before .before .before .tag .given .1) (simp (eq-eqb _ _ (c .before .before .before .before .if1 .left), ← c .before .before .read-elements .ensures, c .enum-told3 .given .1))
 
--- src/elements.rt:41:1
 read-element-returns-4 : (t : ℕ) → At-read-element read-element-lts.Need-returns-4 t
 read-element-returns-4 t c = sound (c .before .before .before .before .before .before .before .before .first-element .ensures) _ (c .before .before .before .before .before .before .tag .given .1) (simp (eq-eqb _ _ (c .before .before .before .before .if1 .left), ← c .before .before .read-elements .ensures, c .enum-told2 .given .1))
 
--- src/elements.rt:61:9
 read-elements-returns : (t : ℕ) → At-read-elements read-elements-lts.Need-returns t
 read-elements-returns t c = none-left _ _ (c .if1 .taken)
 
--- src/elements.rt:64:9
 read-elements-returns-2 : (t : ℕ) → At-read-elements read-elements-lts.Need-returns-2 t
 read-elements-returns-2 t c = too-deep _ _ (c .if2 .taken) (c .before .if1 .left)
 
--- src/elements.rt:66:63
 read-elements-sub-read-element : (t : ℕ) → At-read-elements read-elements-lts.Need-sub-read-element t
 read-elements-sub-read-element t c = omega arith
 
--- src/elements.rt:66:47
 read-elements-read-element-requires : (t : ℕ) → At-read-elements read-elements-lts.Need-read-element-requires t
 read-elements-read-element-requires t c κs = (omega arith, tt)
 
--- src/elements.rt:66:39
 read-elements-enum-known-len : (t : ℕ) → At-read-elements read-elements-lts.Need-enum-known-len t
 read-elements-enum-known-len t c = search needs
 
--- src/elements.rt:67:9
 read-elements-enum-told : (t : ℕ) → At-read-elements read-elements-lts.Need-enum-told t
 read-elements-enum-told t c = search needs
 
--- src/elements.rt:67:9
 read-elements-returns-3 : (t : ℕ) → At-read-elements read-elements-lts.Need-returns-3 t
 read-elements-returns-3 t c = first-bad _ _ (c .before .before .before .if2 .left) (c .before .before .before .before .if1 .left) (missing (c .before .before .read-element .ensures) (c .enum-told .given .1))
 
--- src/elements.rt:69:22
 read-elements-add-read-elements : (t : ℕ) → At-read-elements read-elements-lts.Need-add-read-elements t
 read-elements-add-read-elements t c = omega (arith, len-ends t (c .before), c .before .before .before .before .before .before .before .good .0 .0)
 
--- src/elements.rt:69:19
 read-elements-sub-read-elements : (t : ℕ) → At-read-elements read-elements-lts.Need-sub-read-elements t
 read-elements-sub-read-elements t c = len-ends t (c .before)
 
--- src/elements.rt:69:19
 read-elements-part-read-elements-start : (t : ℕ) → At-read-elements read-elements-lts.Need-part-read-elements-start t
 read-elements-part-read-elements-start t c = len-ends t (c .before)
 
--- src/elements.rt:69:19
 read-elements-part-read-elements-end : (t : ℕ) → At-read-elements read-elements-lts.Need-part-read-elements-end t
 read-elements-part-read-elements-end t c = search needs
 
--- src/elements.rt:69:5
 read-elements-read-elements-requires : (t : ℕ) → At-read-elements read-elements-lts.Need-read-elements-requires t
 read-elements-read-elements-requires t c κs =
     let s = c .before .before .before .before .before .before .before .before .args .s .now in
     let k = c .before .before .len .given .0 .1 .0 + 2 in
     (omega (arith, len-ends t (c .before .before), length-take (length s - k) (drop k s), length-drop k s, c .before .before .before .before .before .before .before .before .pre .0), tt)
 
--- src/elements.rt:57:1
 read-elements-returns-4 : (t : ℕ) → At-read-elements read-elements-lts.Need-returns-4 t
 read-elements-returns-4 t c = c .read-elements .ensures ∙ first-whole _ _ (c .before .before .before .before .before .before .if2 .left) (c .before .before .before .before .before .before .before .if1 .left) (taken (c .before .before .before .before .before .read-element .ensures) (c .before .before .before .len .given .1))
 
