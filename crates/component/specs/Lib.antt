@@ -3,3 +3,4 @@ pub mod Elements
 pub mod Readers
 pub mod Reading
 pub mod Answers
+pub mod Writers
