@@ -41,9 +41,12 @@ front (tag ∷ n ∷ s) h =
 
 -- ---- what a reader found
 module _ {s : List ℕ} {r : FirstElement} {e : Element} (f : Found s r e) where
+  pub found : {tag n : ℕ} → r ≡ first.Whole tag n → e ≡ elementOf (first.Whole tag n) s
+  found q = sym (f .is) ∙ rw q
+
   -- in the parts that the code passes on
   pub taken : {tag n : ℕ} → r ≡ first.Whole tag n → e ≡ Whole tag (take (n + 2 - 2) (drop 2 s)) (take (length s - (n + 2)) (drop (n + 2) s))
-  taken {tag} {n} q = sym (f .is) ∙ rw (q, add-sub-cancel, rest)
+  taken q = found q ∙ rw (add-sub-cancel, rest)
 
   pub ends : {tag n : ℕ} → r ≡ first.Whole tag n → n + 2 ≤ length s
   ends q = rw q at (f .within)

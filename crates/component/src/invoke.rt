@@ -4,39 +4,18 @@ use crate::Operation;
 use crate::Reading;
 use crate::Reject;
 use crate::elements::Elements;
-use crate::elements::FirstElement;
-use crate::elements::first_element;
 use crate::elements::read_elements;
+use crate::values::Integer;
+use crate::values::Object;
+use crate::values::read_integer;
+use crate::values::read_object;
 use octets::IntegerOctets;
 use octets::LinkId;
 ghost use mathlib.Core.Path.{_≡_};
-ghost use mathlib.Core.List.{List, []};
 ghost use Rattle.octets.specs.Lists.{sameOctets};
-ghost use Rattle.component.specs.Elements.{Element, Whole, firstElement};
-ghost use Rattle.component.specs.Readers.{integerOctets};
-ghost use Rattle.component.specs.Reading.{integerIn, objectIn, ectObject, localReading, linkIdReading, objectReading, identifiedReading, invokeReading, framedReading};
-
-// An element taken for an integer.
-pub enum Integer {
-    Whole(IntegerOctets),
-    Other,
-}
-
-// The element of this tag and these contents: an integer has one octet or two.
-pub fn read_integer(tag: u8, contents: &[u8]) -> Integer
-    ensures { λ r. ⌜ integerOctets r ≡ integerIn (Whole tag (now (contents .entry)) []) ⌝ }
-{
-    if tag != 0x02 {
-        return Integer::Other;
-    }
-    if contents.len() == 1 {
-        return Integer::Whole(IntegerOctets::One(contents[0]));
-    }
-    if contents.len() == 2 {
-        return Integer::Whole(IntegerOctets::Two(contents[0], contents[1]));
-    }
-    Integer::Other
-}
+ghost use Rattle.component.specs.Elements.{firstElement};
+ghost use Rattle.component.specs.Reading.{integerIn, ectObject, localReading, linkIdReading, globalReading};
+ghost use Rattle.component.specs.Reading.{identifiedReading, invokeReading, framedReading};
 
 // Whether an object identifier is that of the supplementary service, with this last number.
 pub fn is_ect_object(contents: &[u8], last: u8) -> bool
@@ -53,19 +32,16 @@ pub fn is_ect_object(contents: &[u8], last: u8) -> bool
         & (contents[5] == last)
 }
 
-// The third element of an ExplicitEctExecute.
+// The third element of an ExplicitEctExecute: a LinkId.
 pub fn read_link_id(id: IntegerOctets, s: &[u8]) -> Reading
     ensures { λ r. ⌜ r ≡ linkIdReading id (integerIn (firstElement (now (s .entry)))) ⌝ }
 {
-    let FirstElement::Whole { tag, len } = first_element(s) else {
-        return Reading::Rejected(Reject::Invoke(id, 2));
-    };
-    let Integer::Whole(link_id) = read_integer(tag, &s[2..len + 2]) else {
+    let Integer::Whole { octets, next: _ } = read_integer(s) else {
         return Reading::Rejected(Reject::Invoke(id, 2));
     };
     Reading::Invoked(
         id,
-        Operation::ExplicitEctExecute(LinkId::from_octets(link_id)),
+        Operation::ExplicitEctExecute(LinkId::from_octets(octets)),
     )
 }
 
@@ -79,49 +55,40 @@ pub fn read_local(id: IntegerOctets, value: IntegerOctets) -> Reading
     Reading::Rejected(Reject::Invoke(id, 1))
 }
 
-// The second element where it is no integer, and the octets after it.
-pub fn read_object(id: IntegerOctets, tag: u8, contents: &[u8], rest: &[u8]) -> Reading
-    ensures { λ r. ⌜ r ≡ objectReading id (objectIn (Whole tag (now (contents .entry)) [])) (now (rest .entry)) ⌝ }
+// An operation value that is an object identifier, and the octets after it.
+pub fn read_global(id: IntegerOctets, value: &[u8], rest: &[u8]) -> Reading
+    ensures { λ r. ⌜ r ≡ globalReading id (now (value .entry)) (now (rest .entry)) ⌝ }
 {
-    if tag != 0x06 {
-        return Reading::Rejected(Reject::General(id, 1));
-    }
-    if contents.len() == 0 {
-        return Reading::Rejected(Reject::General(id, 1));
-    }
-    if is_ect_object(contents, 0x01) {
+    if is_ect_object(value, 0x01) {
         return read_link_id(id, rest);
     }
-    if is_ect_object(contents, 0x04) {
+    if is_ect_object(value, 0x04) {
         return Reading::Invoked(id, Operation::EctLinkIdRequest);
     }
     Reading::Rejected(Reject::Invoke(id, 1))
 }
 
-// The octets after the invoke identifier.
+// The second element: an operation value.
 pub fn read_operation(id: IntegerOctets, s: &[u8]) -> Reading
     ensures { λ r. ⌜ r ≡ identifiedReading id (now (s .entry)) ⌝ }
 {
-    let FirstElement::Whole { tag, len } = first_element(s) else {
+    if let Integer::Whole { octets, next: _ } = read_integer(s) {
+        return read_local(id, octets);
+    }
+    let Object::Whole { len } = read_object(s) else {
         return Reading::Rejected(Reject::General(id, 1));
     };
-    if let Integer::Whole(value) = read_integer(tag, &s[2..len + 2]) {
-        return read_local(id, value);
-    }
-    read_object(id, tag, &s[2..len + 2], &s[len + 2..])
+    read_global(id, &s[2..len + 2], &s[len + 2..])
 }
 
-// The contents of an invoke.
+// The first element of an invoke's contents: the invoke identifier.
 pub fn read_invoke(s: &[u8]) -> Reading
     ensures { λ r. ⌜ r ≡ invokeReading (now (s .entry)) ⌝ }
 {
-    let FirstElement::Whole { tag, len } = first_element(s) else {
+    let Integer::Whole { octets, next } = read_integer(s) else {
         return Reading::Rejected(Reject::Null(1));
     };
-    let Integer::Whole(id) = read_integer(tag, &s[2..len + 2]) else {
-        return Reading::Rejected(Reject::Null(1));
-    };
-    read_operation(id, &s[len + 2..])
+    read_operation(octets, &s[next..])
 }
 
 // The octets after the tag of an invoke: its length and its contents.

@@ -2,6 +2,7 @@
 mod answers;
 mod elements;
 mod invoke;
+mod values;
 
 use octets::IntegerOctets;
 use octets::LinkId;

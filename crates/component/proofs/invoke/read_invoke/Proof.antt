@@ -2,21 +2,20 @@
 use borrow.Author.Needs.{needs}
 use Rattle.component.proofs.invoke.read_invoke.Statement.{statement}
 use Rattle.component.proofs.invoke.read_invoke.Tie as tie
-use Prim.Native.Nat.{_+_, _≤_}
-use native.Mathlib.Omega.{arith}
+use Prim.Native.Nat.{_≤_}
 use mathlib.Core.Path.{_∙_}
 use lib.ListN.{length}
 use Rattle.component.specs.Reading.{invokeReading}
-use Rattle.component.proofs.ElementLaws.{taken, ends, missing}
+use Rattle.component.proofs.ReadingLaws.{integer-is, integer-rest, integer-ends, integer-none}
 
-within : (c : tie.After-tag) → c .tag .given .0 .1 .0 + 2 ≤ length (c .before .before .before .before .args .s .now)
-within c = ends (c .before .before .first-element .ensures) (c .tag .given .1)
+within : (c : tie.After-octets) → c .octets .given .0 .1 .0 ≤ length (c .before .before .before .before .args .s .now)
+within c = integer-ends (c .before .before .read-integer .ensures) (c .octets .given .1)
 
-first-element-requires : tie.Need-first-element-requires
-first-element-requires c κs = search needs
+read-integer-requires : tie.Need-read-integer-requires
+read-integer-requires c κs = search needs
 
-enum-known-tag : tie.Need-enum-known-tag
-enum-known-tag c = search needs
+enum-known-octets : tie.Need-enum-known-octets
+enum-known-octets c = search needs
 
 enum-told : tie.Need-enum-told
 enum-told c = search needs
@@ -24,42 +23,13 @@ enum-told c = search needs
 returns : tie.Need-returns
 unfolding invokeReading
 returns c =
-    rw (missing (c .before .before .first-element .ensures) (c .enum-told .given .1))
-
-add-read-integer : tie.Need-add-read-integer
-add-read-integer c = omega (arith, within (c .before))
-
-sub-read-integer : tie.Need-sub-read-integer
-sub-read-integer c = search needs
-
-part-read-integer-start : tie.Need-part-read-integer-start
-part-read-integer-start c = search needs
-
-part-read-integer-end : tie.Need-part-read-integer-end
-part-read-integer-end c = within (c .before)
-
-read-integer-requires : tie.Need-read-integer-requires
-read-integer-requires c κs = search needs
-
-enum-known-id : tie.Need-enum-known-id
-enum-known-id c = search needs
-
-enum-told-2 : tie.Need-enum-told-2
-enum-told-2 c = search needs
-
-returns-2 : tie.Need-returns-2
-unfolding invokeReading
-returns-2 c =
-    rw (taken (c .before .before .before .before .before .before .before .first-element .ensures) (c .before .before .before .before .before .tag .given .1), ← c .before .before .read-integer .ensures, c .enum-told2 .given .1)
-
-add-read-operation : tie.Need-add-read-operation
-add-read-operation c = omega (arith, within (c .before .before .before .before .before .before))
+    rw (integer-none (c .before .before .read-integer .ensures) (c .enum-told .given .1))
 
 sub-read-operation : tie.Need-sub-read-operation
-sub-read-operation c = within (c .before .before .before .before .before .before)
+sub-read-operation c = within (c .before)
 
 part-read-operation-start : tie.Need-part-read-operation-start
-part-read-operation-start c = within (c .before .before .before .before .before .before)
+part-read-operation-start c = within (c .before)
 
 part-read-operation-end : tie.Need-part-read-operation-end
 part-read-operation-end c = search needs
@@ -67,30 +37,21 @@ part-read-operation-end c = search needs
 read-operation-requires : tie.Need-read-operation-requires
 read-operation-requires c κs = search needs
 
-returns-3 : tie.Need-returns-3
+returns-2 : tie.Need-returns-2
 unfolding invokeReading
-returns-3 c =
-    c .read-operation .ensures ∙ rw (taken (c .before .before .before .before .before .before .before .before .before .before .first-element .ensures) (c .before .before .before .before .before .before .before .before .tag .given .1), ← c .before .before .before .before .before .read-integer .ensures, c .before .before .before .id .given .1)
+returns-2 c =
+    c .read-operation .ensures ∙ rw (integer-is (c .before .before .before .before .before .read-integer .ensures) (c .before .before .before .octets .given .1), integer-rest (c .before .before .before .before .before .read-integer .ensures) (c .before .before .before .octets .given .1))
 
 pub read-invoke-spec : {M : Type 1} → statement M
 read-invoke-spec =
     tie.close
     (tie.spec
-    first-element-requires
-    enum-known-tag
+    read-integer-requires
+    enum-known-octets
     enum-told
     returns
-    add-read-integer
-    sub-read-integer
-    part-read-integer-start
-    part-read-integer-end
-    read-integer-requires
-    enum-known-id
-    enum-told-2
-    returns-2
-    add-read-operation
     sub-read-operation
     part-read-operation-start
     part-read-operation-end
     read-operation-requires
-    returns-3)
+    returns-2)

@@ -7,110 +7,94 @@ use native.Mathlib.Omega.{arith}
 use mathlib.Core.Path.{_∙_}
 use lib.ListN.{length}
 use Rattle.component.specs.Reading.{identifiedReading}
-use Rattle.component.proofs.ElementLaws.{taken, ends, missing}
+use Rattle.component.proofs.ReadingLaws.{integer-is, integer-none, object-is, object-rest, object-ends, object-none}
 
-within : (c : tie.After-tag) → c .tag .given .0 .1 .0 + 2 ≤ length (c .before .before .before .before .args .s .now)
-within c = ends (c .before .before .first-element .ensures) (c .tag .given .1)
-
-first-element-requires : tie.Need-first-element-requires
-first-element-requires c κs = search needs
-
-enum-known-tag : tie.Need-enum-known-tag
-enum-known-tag c = search needs
-
-enum-told : tie.Need-enum-told
-enum-told c = search needs
-
-returns : tie.Need-returns
-unfolding identifiedReading
-returns c =
-    rw (missing (c .before .before .first-element .ensures) (c .enum-told .given .1))
-
-add-read-integer : tie.Need-add-read-integer
-add-read-integer c = omega (arith, within (c .before))
-
-sub-read-integer : tie.Need-sub-read-integer
-sub-read-integer c = search needs
-
-part-read-integer-start : tie.Need-part-read-integer-start
-part-read-integer-start c = search needs
-
-part-read-integer-end : tie.Need-part-read-integer-end
-part-read-integer-end c = within (c .before)
+within : (c : tie.After-len) → c .len .given .0 .0 + 2 ≤ length (c .before .before .before .before .before .before .before .args .s .now)
+within c = object-ends (c .before .before .read-object .ensures) (c .len .given .1)
 
 read-integer-requires : tie.Need-read-integer-requires
 read-integer-requires c κs = search needs
 
-enum-known-value : tie.Need-enum-known-value
-enum-known-value c = search needs
+enum-known-octets : tie.Need-enum-known-octets
+enum-known-octets c = search needs
 
 read-local-requires : tie.Need-read-local-requires
 read-local-requires c κs = search needs
 
-returns-2 : tie.Need-returns-2
+returns : tie.Need-returns
 unfolding identifiedReading
-returns-2 c =
-    c .read-local .ensures ∙ rw (taken (c .before .before .before .before .before .before .before .before .before .first-element .ensures) (c .before .before .before .before .before .before .before .tag .given .1), ← c .before .before .before .before .read-integer .ensures, c .before .before .value .given .1)
+returns c =
+    c .read-local .ensures ∙ rw (integer-is (c .before .before .before .before .read-integer .ensures) (c .before .before .octets .given .1))
 
-enum-told-2 : tie.Need-enum-told-2
-enum-told-2 c = search needs
-
-add-read-object : tie.Need-add-read-object
-add-read-object c = omega (arith, within (c .before .before .before .before .before))
-
-sub-read-object : tie.Need-sub-read-object
-sub-read-object c = search needs
-
-part-read-object-start : tie.Need-part-read-object-start
-part-read-object-start c = search needs
-
-part-read-object-end : tie.Need-part-read-object-end
-part-read-object-end c = within (c .before .before .before .before .before)
-
-add-read-object-2 : tie.Need-add-read-object-2
-add-read-object-2 c = omega (arith, within (c .before .before .before .before .before .before))
-
-sub-read-object-2 : tie.Need-sub-read-object-2
-sub-read-object-2 c = within (c .before .before .before .before .before .before)
-
-part-read-object-start-2 : tie.Need-part-read-object-start-2
-part-read-object-start-2 c = within (c .before .before .before .before .before .before)
-
-part-read-object-end-2 : tie.Need-part-read-object-end-2
-part-read-object-end-2 c = search needs
+enum-told : tie.Need-enum-told
+enum-told c = search needs
 
 read-object-requires : tie.Need-read-object-requires
 read-object-requires c κs = search needs
 
+enum-known-len : tie.Need-enum-known-len
+enum-known-len c = search needs
+
+enum-told-2 : tie.Need-enum-told-2
+enum-told-2 c = search needs
+
+returns-2 : tie.Need-returns-2
+unfolding identifiedReading
+returns-2 c =
+    rw (integer-none (c .before .before .before .before .before .read-integer .ensures) (c .before .before .before .enum-told .given .1), object-none (c .before .before .read-object .ensures) (c .enum-told2 .given .1))
+
+add-read-global : tie.Need-add-read-global
+add-read-global c = omega (arith, within (c .before))
+
+sub-read-global : tie.Need-sub-read-global
+sub-read-global c = search needs
+
+part-read-global-start : tie.Need-part-read-global-start
+part-read-global-start c = search needs
+
+part-read-global-end : tie.Need-part-read-global-end
+part-read-global-end c = within (c .before)
+
+add-read-global-2 : tie.Need-add-read-global-2
+add-read-global-2 c = omega (arith, within (c .before .before))
+
+sub-read-global-2 : tie.Need-sub-read-global-2
+sub-read-global-2 c = within (c .before .before)
+
+part-read-global-start-2 : tie.Need-part-read-global-start-2
+part-read-global-start-2 c = within (c .before .before)
+
+part-read-global-end-2 : tie.Need-part-read-global-end-2
+part-read-global-end-2 c = search needs
+
+read-global-requires : tie.Need-read-global-requires
+read-global-requires c κs = search needs
+
 returns-3 : tie.Need-returns-3
 unfolding identifiedReading
 returns-3 c =
-    c .read-object .ensures ∙ rw (taken (c .before .before .before .before .before .before .before .before .before .before .first-element .ensures) (c .before .before .before .before .before .before .before .before .tag .given .1), ← c .before .before .before .before .before .read-integer .ensures, c .before .before .before .enum-told2 .given .1)
+    c .read-global .ensures ∙ rw (integer-none (c .before .before .before .before .before .before .before .before .before .read-integer .ensures) (c .before .before .before .before .before .before .before .enum-told .given .1), object-is (c .before .before .before .before .before .before .read-object .ensures) (c .before .before .before .before .len .given .1), object-rest (c .before .before .before .before .before .before .read-object .ensures) (c .before .before .before .before .len .given .1))
 
 pub read-operation-spec : {M : Type 1} → statement M
 read-operation-spec =
     tie.close
     (tie.spec
-    first-element-requires
-    enum-known-tag
-    enum-told
-    returns
-    add-read-integer
-    sub-read-integer
-    part-read-integer-start
-    part-read-integer-end
     read-integer-requires
-    enum-known-value
+    enum-known-octets
     read-local-requires
-    returns-2
-    enum-told-2
-    add-read-object
-    sub-read-object
-    part-read-object-start
-    part-read-object-end
-    add-read-object-2
-    sub-read-object-2
-    part-read-object-start-2
-    part-read-object-end-2
+    returns
+    enum-told
     read-object-requires
+    enum-known-len
+    enum-told-2
+    returns-2
+    add-read-global
+    sub-read-global
+    part-read-global-start
+    part-read-global-end
+    add-read-global-2
+    sub-read-global-2
+    part-read-global-start-2
+    part-read-global-end-2
+    read-global-requires
     returns-3)
