@@ -5,3 +5,4 @@ pub mod Lookup
 pub mod Counts
 pub mod Making
 pub mod Changes
+pub mod Keys
