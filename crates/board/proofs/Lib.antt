@@ -1,2 +1,4 @@
 pub mod Long
 pub mod Signed
+pub mod Standings
+pub mod Searches

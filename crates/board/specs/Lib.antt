@@ -6,3 +6,4 @@ pub mod Counts
 pub mod Making
 pub mod Changes
 pub mod Keys
+pub mod Named
