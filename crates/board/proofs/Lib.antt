@@ -1,3 +1,4 @@
+pub mod Soundness
 pub mod Long
 pub mod Signed
 pub mod Standings

@@ -5,5 +5,6 @@ pub mod Lookup
 pub mod Counts
 pub mod Making
 pub mod Changes
+pub mod LinkIds
 pub mod Keys
 pub mod Named

@@ -1,15 +1,15 @@
 -- Laws of tests, picks and look-ups over lists, and of lists that differ in their order alone.
-use Prim.Native.Nat.{ℕ, zero, suc, _+_, _≤_, _<_, zero-le, suc-le-suc}
-use native.Mathlib.Nat.{le-of-suc-le-suc, not-suc-le-zero, le-refl, le-trans, le-step, suc-inj, suc-ne-zero}
+use Prim.Native.Nat.{_+_, _≤_, ℕ, suc, suc-le-suc, zero-le}
+use native.Mathlib.Nat.{le-step, le-of-suc-le-suc, not-suc-le-zero, suc-ne-zero, le-refl}
 use native.Mathlib.Omega.{arith}
-use mathlib.Core.Path.{_≡_, refl, sym, ap, ap₂, _∙_, subst, subst⁻¹}
+use mathlib.Core.Path.{_∙_, _≡_, ap, refl, subst, subst⁻¹, sym, ap₂}
 use mathlib.Core.Logic.{_⊎_, inl, inr}
-use mathlib.Core.Bool.{Bool, true, false, _&&_, _||_, not, cond}
-use mathlib.Core.List.{List, [], _∷_, _++_, map, List·Memᴰ, List·Memᴰ·head, List·Memᴰ·tail}
-use mathlib.Core.Option.{Option, none, some, Option·map}
-use lib.Dec.{T, eqb, leb, ltb, eqb→eq, eqb-refl}
+use mathlib.Core.Bool.{Bool, true, not, false, _&&_, _||_}
+use mathlib.Core.List.{_∷_, List, List·Memᴰ, List·Memᴰ·head, List·Memᴰ·tail, [], map}
+use mathlib.Core.Option.{none, some, Option}
+use lib.Dec.{T, eqb, eqb→eq, eqb-refl}
 use lib.ListN.{length}
-use Rattle.octets.specs.Lists.{any, all, consIf, keep, orElse, find, only, consOpt, pick}
+use Rattle.octets.specs.Lists.{any, all, consIf, keep, find, orElse, consOpt, only, pick, distinct}
 
 -- ---- Bools
 
@@ -468,3 +468,72 @@ module _ {A B : Type 0} where
       go false true false k e = omega arith
       go false false true k e = omega arith
       go false false false k e = e
+
+-- ---- distinctness
+
+swap4 : (a b c d : Bool) → (not (a || b) && (not c && d)) ≡ (not (a || c) && (not b && d))
+swap4 true b c d = refl
+swap4 false true true d = refl
+swap4 false true false d = refl
+swap4 false false true d = refl
+swap4 false false false d = refl
+
+module _ {A : Type 0} where
+  pub distinct-perm : (same : A → A → Bool) → ((e f : A) → same e f ≡ same f e) → {l m : List A} → Perm l m → distinct same l ≡ distinct same m
+  distinct-perm same s p-nil = refl
+  distinct-perm same s (p-skip {x = x} p) = ap₂ (λ (a b : Bool). not a && b) (any-perm (same x) p) (distinct-perm same s p)
+  distinct-perm same s (p-swap {x = x} {y = y} {l = l}) =
+      ap (λ (a : Bool). not (a || any (same x) l) && (not (any (same y) l) && distinct same l)) (s x y)
+      ∙ swap4 (same y x) (any (same x) l) (any (same y) l) (distinct same l)
+  distinct-perm same s (p-trans p q) = distinct-perm same s p ∙ distinct-perm same s q
+
+  pub distinct-map : (same : A → A → Bool) (g : A → A) (es : List A) → ((e f : A) → same (g e) (g f) ≡ true → same e f ≡ true) →
+      distinct same es ≡ true → distinct same (map g es) ≡ true
+  distinct-map same g [] w h = refl
+  distinct-map same g (e ∷ es) w h = both (ap not (none-by (same (g e)) (map g es) away)) (distinct-map same g es w (right (not (any (same e) es)) _ h))
+    where
+      apart : any (same e) es ≡ false
+      apart = is-not (left (not (any (same e) es)) _ h)
+
+      away : (y : A) → List·Memᴰ y (map g es) → same (g e) y ≡ false
+      away y m = go (map-mem g es m)
+        where
+          go : (x : A) × List·Memᴰ x es × (y ≡ g x) → same (g e) y ≡ false
+          go r = by (test (same (g e) y))
+            where
+              by : (same (g e) y ≡ true) ⊎ (same (g e) y ≡ false) → same (g e) y ≡ false
+              by (inl t) = absurd (true-not-false (any-of (same e) (r .1) (w e (r .0) (ap (same (g e)) (sym (r .2)) ∙ t))) apart)
+              by (inr t) = t
+
+  pub distinct-keep : (same : A → A → Bool) (p : A → Bool) (es : List A) → distinct same es ≡ true → distinct same (keep p es) ≡ true
+  distinct-keep same p [] h = refl
+  distinct-keep same p (e ∷ es) h = go (p e) (distinct-keep same p es (right (not (any (same e) es)) _ h))
+    where
+      apart : any (same e) (keep p es) ≡ false
+      apart = none-by (same e) (keep p es) (λ y m. none-of (same e) (keep-mem p es m .0) (is-not (left (not (any (same e) es)) _ h)))
+
+      go : (b : Bool) → distinct same (keep p es) ≡ true → distinct same (consIf b e (keep p es)) ≡ true
+      go true k = both (ap not apart) k
+      go false k = k
+
+  pub distinct-one : (same : A → A → Bool) (p : A → Bool) → ((e f : A) → p e ≡ true → p f ≡ true → same e f ≡ true) →
+      (es : List A) → distinct same es ≡ true → length (keep p es) ≤ 1
+  distinct-one same p w [] h = zero-le
+  distinct-one same p w (e ∷ es) h = go (p e) refl (distinct-one same p w es (right (not (any (same e) es)) _ h))
+    where
+      apart : any (same e) es ≡ false
+      apart = is-not (left (not (any (same e) es)) _ h)
+
+      others : p e ≡ true → keep p es ≡ []
+      others t = keep-none p es (none-by p es away)
+        where
+          away : (f : A) → List·Memᴰ f es → p f ≡ false
+          away f m = by (test (p f))
+            where
+              by : (p f ≡ true) ⊎ (p f ≡ false) → p f ≡ false
+              by (inl u) = absurd (true-not-false (any-of (same e) m (w e f t u)) apart)
+              by (inr u) = u
+
+      go : (b : Bool) → p e ≡ b → length (keep p es) ≤ 1 → length (consIf b e (keep p es)) ≤ 1
+      go true t k = subst⁻¹ (λ (l : List A). length (e ∷ l) ≤ 1) (others t) (le-refl 1)
+      go false t k = k

@@ -1,0 +1,23 @@
+-- The LinkIds that are live, and the next one that is free (document 01, "Serving it").
+use Prim.Native.Nat.{ℕ, zero, suc}
+use mathlib.Core.Bool.{Bool, true, false}
+use mathlib.Core.List.{List}
+use mathlib.Core.Option.{Option, none, some}
+use lib.IntN.{ℤ}
+use Rattle.octets.specs.Lists.{any, pick}
+use Rattle.octets.specs.Numbers.{sameLinkId, nextLinkId}
+use Rattle.board.specs.declared.Row.{Row}
+use Rattle.board.specs.Entries.{Entry, taken, linkIdOf}
+
+-- the term "live LinkIds": those of the calls with the served user
+abbrev pub liveLinkIds : List Row → List ℤ
+liveLinkIds rows = pick (λ (e : Entry). linkIdOf (e .connection)) (taken rows)
+
+abbrev pub unlessLive : Bool → ℤ → Option ℤ → Option ℤ
+unlessLive true z later = later
+unlessLive false z later = some z
+
+-- "the first value not live from the candidate upward, 32767 followed by -32768", looked for at that many values
+abbrev pub freeLinkId : ℕ → ℤ → List ℤ → Option ℤ
+freeLinkId zero z used = none
+freeLinkId (suc n) z used = unlessLive (any (sameLinkId z) used) z (freeLinkId n (nextLinkId z) used)

@@ -1,0 +1,119 @@
+-- Reply records: as data, and as octets (document 01, "Reply records", and what "Serving it" tells the far parties).
+use Prim.Native.Nat.{ℕ, _-_}
+use mathlib.Core.Bool.{Bool, true, false, _&&_, _||_, cond}
+use mathlib.Core.List.{List, [], _∷_, _++_}
+use mathlib.Core.Option.{Option, none, some}
+use lib.Dec.{eqb}
+use lib.ListN.{length, replicate, getD}
+use Rattle.octets.specs.Lists.{find}
+use Rattle.octets.specs.Numbers.{two, four}
+use Rattle.component.specs.declared.Answer.{Answer}
+use Rattle.component.specs.Answers.{answerOctets}
+use Rattle.board.specs.declared.Row.{Row}
+use Rattle.board.specs.States.{delivered}
+use Rattle.board.specs.Entries.{Party, occupied}
+
+-- a number as it is told
+pub record Number : Type 0 where
+  pub mark : ℕ
+  pub count : ℕ
+  pub digits : List ℕ
+
+-- a Reply's reference is the event's; a Tell has leg, message, description, number, subaddress request
+pub data ReplyRecord : Type 0 where
+  Reply : (reference : ℕ) → Answer → ReplyRecord
+  Tell : (leg message description : ℕ) → Number → (request : ℕ) → ReplyRecord
+  Drop : (reference : ℕ) → ReplyRecord
+  Gone : (leg : ℕ) → ReplyRecord
+
+-- "count 1, component in 32 octets, zero filled"
+abbrev pub filled : List ℕ → List ℕ
+filled c = length c ∷ (c ++ replicate (32 - length c) 0)
+
+-- "0x81 Reply (35): the event's reference 2, count 1, component in 32 octets, zero filled. 0x82 Tell (24): leg 4, message 1, description 1,
+-- number mark 1, subaddress request 1, digit count 1, digits 15. 0x83 Drop (2): reference. 0x84 Gone (4): leg."
+abbrev pub recordOctets : ReplyRecord → List ℕ
+recordOctets (Reply r a) = 0x81 ∷ (two r ++ filled (answerOctets a))
+recordOctets (Tell l m d n s) = 0x82 ∷ (four l ++ (m ∷ d ∷ n .mark ∷ s ∷ n .count ∷ n .digits))
+recordOctets (Drop r) = 0x83 ∷ two r
+recordOctets (Gone l) = 0x84 ∷ four l
+
+-- the octets of all records, in their order
+unfoldable pub octets : List ReplyRecord → List ℕ
+octets [] = []
+octets (r ∷ rs) = recordOctets r ++ octets rs
+
+-- ---- "Number mark: 0 unknown, or not sent; 2 withheld, where digits exist but are restricted; 1 given."
+-- ---- "Digits appear only with 1; else digit count and digits are zero."
+
+abbrev pub markOnly : ℕ → Number
+markOnly m = record { mark = m; count = 0; digits = replicate 15 0 }
+
+abbrev pub numberOfRow : Option Row → Number
+numberOfRow none = markOnly 0
+numberOfRow (some r) =
+    cond (eqb (r .count) 0) (markOnly 0)
+    (cond (eqb (r .presentation) 1) (markOnly 2)
+    (record { mark = 1; count = r .count; digits = r .digits }))
+
+-- the number of the party at a leg
+abbrev pub numberAt : List Row → ℕ → Number
+numberAt rows l = numberOfRow (find (λ (r : Row). eqb l (r .leg) && occupied (r .standing)) rows)
+
+-- ---- what the far parties are told
+
+abbrev pub facility : ℕ
+facility = 0
+
+abbrev pub notify : ℕ
+notify = 1
+
+-- "E9 call transferred, alerting; EA call transferred, active"
+abbrev pub transferredAlerting : ℕ
+transferredAlerting = 0xE9
+
+abbrev pub transferredActive : ℕ
+transferredActive = 0xEA
+
+-- a leg, whether it alerts itself, whether the other does, and the other's number:
+-- "Both Active: each is told FACILITY, EA, the other's number, request 1. One alerting: the Active one FACILITY, E9, mark 0, request 1;
+-- the alerting one NOTIFY, EA, the other's number, request 0." Two calls that pair are never both Delivered.
+abbrev pub told : ℕ → Bool → Bool → Number → ReplyRecord
+told l false false n = Tell l facility transferredActive n 1
+told l false true n = Tell l facility transferredAlerting (markOnly 0) 1
+told l true other n = Tell l notify transferredActive n 0
+
+-- "then two Tells, the named call's party first"
+abbrev pub tells : List Row → Party → Party → List ReplyRecord
+tells rows p q =
+    told (p .leg) (delivered (p .call)) (delivered (q .call)) (numberAt rows (q .leg))
+    ∷ told (q .leg) (delivered (q .call)) (delivered (p .call)) (numberAt rows (p .leg))
+    ∷ []
+
+-- "Answer tells the partner FACILITY, EA, the answering number, request 0 (H)."
+abbrev pub answerTold : List Row → ℕ → ℕ → ReplyRecord
+answerTold rows l partner = Tell partner facility transferredActive (numberAt rows l) 0
+
+-- the one point left open: "two Drops in either order"
+pub data DropOrder : Type 0 where
+  NamedFirst : DropOrder
+  OtherFirst : DropOrder
+
+abbrev pub drops : DropOrder → ℕ → ℕ → List ReplyRecord
+drops NamedFirst named other = Drop named ∷ Drop other ∷ []
+drops OtherFirst named other = Drop other ∷ Drop named ∷ []
+
+-- ---- "An error answer is a Reply whose component begins A3 or A4."
+
+abbrev pub errorTag : ℕ → Bool
+errorTag t = eqb t 0xA3 || eqb t 0xA4
+
+abbrev pub errorRecord : ReplyRecord → Bool
+errorRecord (Reply r a) = errorTag (getD (answerOctets a) 0 0)
+errorRecord (Tell l m d n s) = false
+errorRecord (Drop r) = false
+errorRecord (Gone l) = false
+
+-- the same of the octets written: a Reply is written before any other record, its component from the fifth octet on
+abbrev pub errorOctets : List ℕ → Bool
+errorOctets os = eqb (getD os 0 0) 0x81 && errorTag (getD os 4 0)
