@@ -3,3 +3,4 @@ pub mod Long
 pub mod Signed
 pub mod Standings
 pub mod Searches
+pub mod FreeLinkIds

@@ -50,7 +50,7 @@ key-nowhere k rows e = place-none (matchesKey k) rows (found-nothing (placeFrom 
 
 -- ---- the entry that the definitions look up is that of the row found
 
-leg-test : (n : ℕ) (row : Row) → testOpt (hasLeg n) (rowEntry row) ≡ matchesKey (key.Leg n) row
+pub leg-test : (n : ℕ) (row : Row) → testOpt (hasLeg n) (rowEntry row) ≡ matchesKey (key.Leg n) row
 leg-test n row = go (row .standing)
   where
     go : (s : Standing) → testOpt (hasLeg n) (entryOf (row .leg) s) ≡ (occupied s && eqb n (row .leg))
@@ -58,7 +58,7 @@ leg-test n row = go (row .standing)
     go (Served c) = refl
     go (Joined p a) = refl
 
-reference-test : (r : CallReference) (row : Row) → testOpt (hasReference (r .0)) (rowEntry row) ≡ matchesKey (key.Reference r) row
+pub reference-test : (r : CallReference) (row : Row) → testOpt (hasReference (r .0)) (rowEntry row) ≡ matchesKey (key.Reference r) row
 reference-test r row = go (row .standing)
   where
     go : (s : Standing) → testOpt (hasReference (r .0)) (entryOf (row .leg) s) ≡ isCallOf (r .0) s
@@ -66,7 +66,7 @@ reference-test r row = go (row .standing)
     go (Served c) = refl
     go (Joined p a) = refl
 
-linkId-test : (l : LinkId) (row : Row) → testOpt (hasLinkId (l .0)) (rowEntry row) ≡ matchesKey (key.LinkId l) row
+pub linkId-test : (l : LinkId) (row : Row) → testOpt (hasLinkId (l .0)) (rowEntry row) ≡ matchesKey (key.LinkId l) row
 linkId-test l row = go (row .standing)
   where
     go : (s : Standing) → testOpt (hasLinkId (l .0)) (entryOf (row .leg) s) ≡ isLinkId (l .0) (standingLinkId s)

@@ -1,10 +1,11 @@
 // Finding a row of the board: one loop for every key that the rules look a row up by.
 ghost use mathlib.Core.Path.{_≡_};
 ghost use Rattle.octets.specs.Lists.{placeFrom};
-ghost use Rattle.octets.specs.Numbers.{sameLinkId};
+ghost use Rattle.octets.specs.Numbers.{sameLinkId, nextLinkId};
 ghost use Rattle.board.specs.Entries.{occupied, linkIdIn, isLinkId};
 ghost use Rattle.board.specs.Lookup.{isCallOf, foundAt, lookup as lookupRows};
 ghost use Rattle.board.specs.Keys.{standingLinkId, matchesKey};
+ghost use Rattle.board.specs.LinkIds.{liveLinkIds, freeLinkId, optionalLinkId};
 use crate::Board;
 use crate::Call;
 use crate::Found;
@@ -99,4 +100,29 @@ pub fn lookup(board: Board, reference: CallReference) -> Found
     ensures { λ r. ⌜ r ≡ lookupRows (reference .0) (board .rows) ⌝ }
 {
     find(board, Key::Reference(reference))
+}
+
+fn next_link_id(id: LinkId) -> LinkId
+    ensures { λ r. ⌜ r ≡ record { 0 = nextLinkId (id .0) } ⌝ }
+{
+    let z = id.0;
+    if z == 32767 {
+        LinkId(-32768)
+    } else {
+        LinkId(z + 1)
+    }
+}
+
+// The first LinkId that is not live, from the candidate upward. Of 16 values one is free unless 16 are live.
+pub fn free_link_id(board: Board) -> OptionalLinkId
+    ensures { λ r. ⌜ r ≡ optionalLinkId (freeLinkId 16 (board .candidate .0) (liveLinkIds (board .rows))) ⌝ }
+{
+    let mut id = board.candidate;
+    for k in 0..16u8 {
+        if let Found::Nothing = find(board, Key::LinkId(id)) {
+            return OptionalLinkId::Present(id);
+        }
+        id = next_link_id(id);
+    }
+    OptionalLinkId::Absent
 }

@@ -143,6 +143,10 @@ module _ {A B : Type 0} where
       go none e = e
       go (some y) e = ap (λ (b : Bool). q y || b) e
 
+  pub pick-ext : (f g : A → Option B) (l : List A) → ((x : A) → f x ≡ g x) → pick f l ≡ pick g l
+  pick-ext f g [] h = refl
+  pick-ext f g (x ∷ l) h = ap₂ (λ (o : Option B) (r : List B). consOpt o r) (h x) (pick-ext f g l h)
+
 module _ {B C : Type 0} where
   abbrev pub pickOpt : (B → Option C) → Option B → Option C
   pickOpt g none = none
