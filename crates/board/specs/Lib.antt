@@ -6,3 +6,5 @@ pub mod Counts
 pub mod Making
 pub mod Changes
 pub mod LinkIds
+pub mod Keys
+pub mod Named

@@ -6,6 +6,8 @@ use mathlib.Core.Option.{Option, none, some}
 use lib.IntN.{ℤ}
 use Rattle.octets.specs.Lists.{any, pick}
 use Rattle.octets.specs.Numbers.{sameLinkId, nextLinkId}
+use Rattle.board.specs.declared.OptionalLinkId.{OptionalLinkId}
+use Rattle.board.specs.declared.OptionalLinkId.the-variants.{Absent, Present}
 use Rattle.board.specs.declared.Row.{Row}
 use Rattle.board.specs.Entries.{Entry, taken, linkIdOf}
 
@@ -21,3 +23,8 @@ unlessLive false z later = some z
 abbrev pub freeLinkId : ℕ → ℤ → List ℤ → Option ℤ
 freeLinkId zero z used = none
 freeLinkId (suc n) z used = unlessLive (any (sameLinkId z) used) z (freeLinkId n (nextLinkId z) used)
+
+-- as the code says it
+abbrev pub optionalLinkId : Option ℤ → OptionalLinkId
+optionalLinkId none = Absent
+optionalLinkId (some z) = Present (record { 0 = z })

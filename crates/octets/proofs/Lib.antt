@@ -2,3 +2,4 @@
 pub mod Laws
 pub mod Lists
 pub mod SameLinkId
+pub mod Places

@@ -1,0 +1,69 @@
+-- The LinkIds that are live, by the rows that have them, and one step of the search for one that is free.
+use Prim.Native.Nat.{ℕ, suc, _+_, _-_, _≤_, _<_}
+use native.Mathlib.Omega.{arith}
+use mathlib.Core.Path.{_≡_, refl, sym, ap, _∙_}
+use mathlib.Core.Bool.{Bool, true, false}
+use mathlib.Core.List.{List}
+use mathlib.Core.Option.{Option, none, some}
+use lib.IntN.{ℤ}
+use Rattle.octets.specs.declared.LinkId.{LinkId}
+use Rattle.octets.specs.Numbers.{sameLinkId, nextLinkId}
+use Rattle.octets.specs.Lists.{any, pick, placeFrom}
+use Rattle.octets.proofs.Lists.{testOpt, any-ext}
+use Rattle.octets.proofs.Places.{place-some, pickOpt, any-pick, pick-pick, pick-ext}
+use Rattle.board.specs.declared.Standing.{Standing}
+use Rattle.board.specs.declared.Standing.the-variants.{Empty, Served, Joined}
+use Rattle.board.specs.declared.Row.{Row}
+use Rattle.board.specs.declared.Found.the-variants.{At, Nothing}
+use Rattle.board.specs.declared.finding.Key.the-variants as key
+use Rattle.board.specs.Entries.{Connection, WithUser, WithPartner, Entry, Party, rowEntry, taken, partyOf, calls, linkIdIn, linkIdOf, isLinkId, hasLinkId}
+use Rattle.board.specs.Lookup.{foundAt}
+use Rattle.board.specs.Keys.{matchesKey}
+use Rattle.board.specs.LinkIds.{liveLinkIds, unlessLive, freeLinkId}
+use Rattle.board.proofs.Searches.{found-at, key-nowhere, linkId-test}
+
+is-linkId : (z : ℤ) (o : Option ℤ) → testOpt (sameLinkId z) o ≡ isLinkId z o
+is-linkId z none = refl
+is-linkId z (some y) = refl
+
+-- a LinkId is live where some row has it
+pub live-rows : (l : LinkId) (rows : List Row) → any (sameLinkId (l .0)) (liveLinkIds rows) ≡ any (matchesKey (key.LinkId l)) rows
+live-rows l rows =
+    any-pick (sameLinkId (l .0)) (λ (e : Entry). linkIdOf (e .connection)) (taken rows)
+    ∙ any-ext (λ (e : Entry). testOpt (sameLinkId (l .0)) (linkIdOf (e .connection))) (hasLinkId (l .0)) (taken rows) (λ e. is-linkId (l .0) (linkIdOf (e .connection)))
+    ∙ any-pick (hasLinkId (l .0)) rowEntry rows
+    ∙ any-ext (λ (row : Row). testOpt (hasLinkId (l .0)) (rowEntry row)) (matchesKey (key.LinkId l)) rows (linkId-test l)
+
+-- the LinkIds of the calls are those that are live
+pub live-calls : (rows : List Row) → pick (λ (p : Party). linkIdIn (p .call .link)) (calls (taken rows)) ≡ liveLinkIds rows
+live-calls rows =
+    pick-pick (λ (p : Party). linkIdIn (p .call .link)) (λ (e : Entry). partyOf (e .leg) (e .connection)) (taken rows)
+    ∙ pick-ext (λ (e : Entry). pickOpt (λ (p : Party). linkIdIn (p .call .link)) (partyOf (e .leg) (e .connection))) (λ (e : Entry). linkIdOf (e .connection)) (taken rows) (λ e. go (e .leg) (e .connection))
+  where
+    go : (n : ℕ) (c : Connection) → pickOpt (λ (p : Party). linkIdIn (p .call .link)) (partyOf n c) ≡ linkIdOf c
+    go n (WithUser c) = refl
+    go n (WithPartner p a) = refl
+
+-- ---- one step of the search, at value k of n
+
+module _ (l : LinkId) (rows : List Row) (n k : ℕ) (h : k < n) where
+  pub free-here : foundAt (placeFrom (matchesKey (key.LinkId l)) 0 rows) ≡ Nothing → some (l .0) ≡ freeLinkId (n - k) (l .0) (liveLinkIds rows)
+  free-here e =
+      let s : n - k ≡ suc (n - (k + 1)) = omega arith in
+      let v : any (sameLinkId (l .0)) (liveLinkIds rows) ≡ false = live-rows l rows ∙ key-nowhere (key.LinkId l) rows e in
+      sym
+      (ap (λ (m : ℕ). freeLinkId m (l .0) (liveLinkIds rows)) s
+      ∙ ap (λ (b : Bool). unlessLive b (l .0) (freeLinkId (n - (k + 1)) (nextLinkId (l .0)) (liveLinkIds rows))) v)
+
+  pub free-next : (i : ℕ) → foundAt (placeFrom (matchesKey (key.LinkId l)) 0 rows) ≡ At i →
+      freeLinkId (n - (k + 1)) (nextLinkId (l .0)) (liveLinkIds rows) ≡ freeLinkId (n - k) (l .0) (liveLinkIds rows)
+  free-next i e =
+      let s : n - k ≡ suc (n - (k + 1)) = omega arith in
+      let v : any (sameLinkId (l .0)) (liveLinkIds rows) ≡ true =
+      live-rows l rows ∙ place-some (matchesKey (key.LinkId l)) rows i (found-at (placeFrom (matchesKey (key.LinkId l)) 0 rows) i e) in
+      sym
+      (ap (λ (m : ℕ). freeLinkId m (l .0) (liveLinkIds rows)) s
+      ∙ ap (λ (b : Bool). unlessLive b (l .0) (freeLinkId (n - (k + 1)) (nextLinkId (l .0)) (liveLinkIds rows))) v)
+
+pub free-end : (z : ℤ) (used : List ℤ) (n k : ℕ) → n ≤ k → none ≡ freeLinkId (n - k) z used
+free-end z used n k h = let s : n - k ≡ 0 = omega arith in sym (ap (λ (m : ℕ). freeLinkId m z used) s)

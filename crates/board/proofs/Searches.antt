@@ -1,0 +1,167 @@
+-- The row that a search finds, against the definitions: the entry or the party that they look up is that of the row found, and the lowest empty
+-- row is the one that Open stores to.
+use Prim.Native.Nat.{ℕ, zero, suc, _<_, zero-le, suc-le-suc}
+use native.Mathlib.Nat.{le-of-suc-le-suc, not-suc-le-zero}
+use native.Mathlib.Omega.{arith}
+use mathlib.Core.Path.{_≡_, refl, sym, ap, _∙_}
+use mathlib.Core.Bool.{Bool, true, false, _&&_, _||_, not}
+use mathlib.Core.List.{List, [], _∷_}
+use mathlib.Core.Option.{Option, none, some}
+use lib.Dec.{eqb}
+use lib.IntN.{ℤ}
+use lib.ListN.{length, getD, set}
+use Rattle.octets.specs.declared.CallReference.{CallReference}
+use Rattle.octets.specs.declared.LinkId.{LinkId}
+use Rattle.octets.specs.Numbers.{sameLinkId}
+use Rattle.octets.specs.Lists.{any, find, pick, placeFrom}
+use Rattle.octets.proofs.Lists.{testOpt, is-not, any-ext}
+use Rattle.octets.proofs.Places.{Lowest, place-lowest, place-none, place-some, none-place, place-ext, pickAt, pickOpt, find-pick, any-pick, pick-pick}
+use Rattle.board.specs.declared.OptionalLinkId.{OptionalLinkId}
+use Rattle.board.specs.declared.OptionalLinkId.the-variants.{Absent, Present}
+use Rattle.board.specs.declared.Call.{Call}
+use Rattle.board.specs.declared.Standing.{Standing}
+use Rattle.board.specs.declared.Standing.the-variants.{Empty, Served, Joined}
+use Rattle.board.specs.declared.Row.{Row}
+use Rattle.board.specs.declared.Found.{Found}
+use Rattle.board.specs.declared.Found.the-variants.{At, Nothing}
+use Rattle.board.specs.declared.finding.Key.{Key}
+use Rattle.board.specs.declared.finding.Key.the-variants as key
+use Rattle.board.specs.Entries.{Entry, Party, entryOf, rowEntry, taken, occupied, partyOf, calls, hasLeg, hasReference, linkIdIn, linkIdOf, isLinkId, hasLinkId}
+use Rattle.board.specs.Lookup.{hasCallOf, isCallOf, foundAt}
+use Rattle.board.specs.Keys.{hasRowLeg, hasRowLinkId, standingLinkId, isEmpty, matchesKey}
+use Rattle.board.specs.Changes.{enter, enterAt, full}
+
+-- ---- the answer of a search
+
+pub found-at : (o : Option ℕ) (i : ℕ) → foundAt o ≡ At i → o ≡ some i
+found-at none i e = let z : _≡_ {A = ℕ} 0 1 = cc in absurd (omega arith)
+found-at (some j) i e = let k : j ≡ i = cc in ap {B = Option ℕ} some k
+
+pub found-nothing : (o : Option ℕ) → foundAt o ≡ Nothing → o ≡ none
+found-nothing none e = refl
+found-nothing (some j) e = let z : _≡_ {A = ℕ} 0 1 = cc in absurd (omega arith)
+
+-- the row found by a key lies within the rows and has the key, and no earlier row has it
+pub key-lowest : (k : Key) (rows : List Row) (d : Row) (i : ℕ) → foundAt (placeFrom (matchesKey k) 0 rows) ≡ At i → Lowest (matchesKey k) d rows i
+key-lowest k rows d i e = place-lowest (matchesKey k) d rows i (found-at (placeFrom (matchesKey k) 0 rows) i e)
+
+pub key-nowhere : (k : Key) (rows : List Row) → foundAt (placeFrom (matchesKey k) 0 rows) ≡ Nothing → any (matchesKey k) rows ≡ false
+key-nowhere k rows e = place-none (matchesKey k) rows (found-nothing (placeFrom (matchesKey k) 0 rows) e)
+
+-- ---- the entry that the definitions look up is that of the row found
+
+pub leg-test : (n : ℕ) (row : Row) → testOpt (hasLeg n) (rowEntry row) ≡ matchesKey (key.Leg n) row
+leg-test n row = go (row .standing)
+  where
+    go : (s : Standing) → testOpt (hasLeg n) (entryOf (row .leg) s) ≡ (occupied s && eqb n (row .leg))
+    go Empty = refl
+    go (Served c) = refl
+    go (Joined p a) = refl
+
+pub reference-test : (r : CallReference) (row : Row) → testOpt (hasReference (r .0)) (rowEntry row) ≡ matchesKey (key.Reference r) row
+reference-test r row = go (row .standing)
+  where
+    go : (s : Standing) → testOpt (hasReference (r .0)) (entryOf (row .leg) s) ≡ isCallOf (r .0) s
+    go Empty = refl
+    go (Served c) = refl
+    go (Joined p a) = refl
+
+pub linkId-test : (l : LinkId) (row : Row) → testOpt (hasLinkId (l .0)) (rowEntry row) ≡ matchesKey (key.LinkId l) row
+linkId-test l row = go (row .standing)
+  where
+    go : (s : Standing) → testOpt (hasLinkId (l .0)) (entryOf (row .leg) s) ≡ isLinkId (l .0) (standingLinkId s)
+    go Empty = refl
+    go (Served c) = refl
+    go (Joined p a) = refl
+
+entry-found : (q : Entry → Bool) (p : Row → Bool) (rows : List Row) (d : Row) → ((row : Row) → testOpt q (rowEntry row) ≡ p row) →
+    find q (taken rows) ≡ pickAt rowEntry d rows (placeFrom p 0 rows)
+entry-found q p rows d f = find-pick q rowEntry d rows ∙ ap (pickAt rowEntry d rows) (place-ext (λ (row : Row). testOpt q (rowEntry row)) p 0 rows f)
+
+pub entry-by-leg : (n : ℕ) (rows : List Row) (d : Row) → find (hasLeg n) (taken rows) ≡ pickAt rowEntry d rows (placeFrom (matchesKey (key.Leg n)) 0 rows)
+entry-by-leg n rows d = entry-found (hasLeg n) (matchesKey (key.Leg n)) rows d (leg-test n)
+
+pub entry-by-reference : (r : CallReference) (rows : List Row) (d : Row) →
+    find (hasReference (r .0)) (taken rows) ≡ pickAt rowEntry d rows (placeFrom (matchesKey (key.Reference r)) 0 rows)
+entry-by-reference r rows d = entry-found (hasReference (r .0)) (matchesKey (key.Reference r)) rows d (reference-test r)
+
+pub entry-by-linkId : (l : LinkId) (rows : List Row) (d : Row) →
+    find (hasLinkId (l .0)) (taken rows) ≡ pickAt rowEntry d rows (placeFrom (matchesKey (key.LinkId l)) 0 rows)
+entry-by-linkId l rows d = entry-found (hasLinkId (l .0)) (matchesKey (key.LinkId l)) rows d (linkId-test l)
+
+-- ---- the party that the definitions look up is that of the row found
+
+-- the party of a row with a call
+abbrev pub rowParty : Row → Option Party
+rowParty row = pickOpt (λ (e : Entry). partyOf (e .leg) (e .connection)) (rowEntry row)
+
+abbrev pub hasPartyReference : ℕ → Party → Bool
+hasPartyReference n p = eqb n (p .call .reference .0)
+
+abbrev pub hasPartyLinkId : ℤ → Party → Bool
+hasPartyLinkId z p = isLinkId z (linkIdIn (p .call .link))
+
+pub calls-of-rows : (rows : List Row) → calls (taken rows) ≡ pick rowParty rows
+calls-of-rows rows = pick-pick (λ (e : Entry). partyOf (e .leg) (e .connection)) rowEntry rows
+
+party-found : (q : Party → Bool) (p : Row → Bool) (rows : List Row) (d : Row) → ((row : Row) → testOpt q (rowParty row) ≡ p row) →
+    find q (calls (taken rows)) ≡ pickAt rowParty d rows (placeFrom p 0 rows)
+party-found q p rows d f =
+    ap (find q) (calls-of-rows rows) ∙ find-pick q rowParty d rows ∙ ap (pickAt rowParty d rows) (place-ext (λ (row : Row). testOpt q (rowParty row)) p 0 rows f)
+
+party-reference-test : (r : CallReference) (row : Row) → testOpt (hasPartyReference (r .0)) (rowParty row) ≡ matchesKey (key.Reference r) row
+party-reference-test r row = go (row .standing)
+  where
+    go : (s : Standing) → testOpt (hasPartyReference (r .0)) (pickOpt (λ (e : Entry). partyOf (e .leg) (e .connection)) (entryOf (row .leg) s)) ≡ isCallOf (r .0) s
+    go Empty = refl
+    go (Served c) = refl
+    go (Joined p a) = refl
+
+party-linkId-test : (l : LinkId) (row : Row) → testOpt (hasPartyLinkId (l .0)) (rowParty row) ≡ matchesKey (key.LinkId l) row
+party-linkId-test l row = go (row .standing)
+  where
+    go : (s : Standing) → testOpt (hasPartyLinkId (l .0)) (pickOpt (λ (e : Entry). partyOf (e .leg) (e .connection)) (entryOf (row .leg) s)) ≡ isLinkId (l .0) (standingLinkId s)
+    go Empty = refl
+    go (Served c) = refl
+    go (Joined p a) = refl
+
+pub party-by-reference : (r : CallReference) (rows : List Row) (d : Row) →
+    find (hasPartyReference (r .0)) (calls (taken rows)) ≡ pickAt rowParty d rows (placeFrom (matchesKey (key.Reference r)) 0 rows)
+party-by-reference r rows d = party-found (hasPartyReference (r .0)) (matchesKey (key.Reference r)) rows d (party-reference-test r)
+
+pub party-by-linkId : (l : LinkId) (rows : List Row) (d : Row) →
+    find (hasPartyLinkId (l .0)) (calls (taken rows)) ≡ pickAt rowParty d rows (placeFrom (matchesKey (key.LinkId l)) 0 rows)
+party-by-linkId l rows d = party-found (hasPartyLinkId (l .0)) (matchesKey (key.LinkId l)) rows d (party-linkId-test l)
+
+-- ---- Open: the lowest empty row is stored to
+
+pub enter-at : (new : Row) (rows : List Row) (d : Row) (i : ℕ) → Lowest isEmpty d rows i → enter new rows ≡ set rows i new
+enter-at new [] d i w = absurd (not-suc-le-zero (w .within))
+enter-at new (x ∷ rows) d zero w = ap (λ (b : Bool). enterAt b new x rows (enter new rows)) (is-not {b = occupied (x .standing)} (w .passes))
+enter-at new (x ∷ rows) d (suc i) w =
+    ap (λ (b : Bool). enterAt b new x rows (enter new rows)) (not-empty (occupied (x .standing)) (w .earlier zero (suc-le-suc zero-le)))
+    ∙ ap (λ (r : List Row). x ∷ r)
+    (enter-at new rows d i (record { within = le-of-suc-le-suc (w .within); passes = w .passes; earlier = λ j h. w .earlier (suc j) (suc-le-suc h) }))
+  where
+    not-empty : (b : Bool) → not b ≡ false → b ≡ true
+    not-empty true e = refl
+    not-empty false e = sym e
+
+pub enter-full : (new : Row) (rows : List Row) → any isEmpty rows ≡ false → enter new rows ≡ rows
+enter-full new [] e = refl
+enter-full new (x ∷ rows) e = go (occupied (x .standing)) e (enter-full new rows)
+  where
+    go : (b : Bool) → (not b || any isEmpty rows) ≡ false → (any isEmpty rows ≡ false → enter new rows ≡ rows) → enterAt b new x rows (enter new rows) ≡ x ∷ rows
+    go true q f = ap (λ (r : List Row). x ∷ r) (f q)
+    go false q f = let z : _≡_ {A = ℕ} 0 1 = cc in absurd (omega arith)
+
+-- ---- no row is empty exactly where the search for one finds none
+
+pub full-nowhere : (rows : List Row) → full rows ≡ true → placeFrom (matchesKey key.Empty) 0 rows ≡ none
+full-nowhere rows e = none-place isEmpty rows (is-not e)
+
+pub nowhere-full : (rows : List Row) → placeFrom (matchesKey key.Empty) 0 rows ≡ none → full rows ≡ true
+nowhere-full rows e = ap not (place-none isEmpty rows e)
+
+pub somewhere-not-full : (rows : List Row) (i : ℕ) → placeFrom (matchesKey key.Empty) 0 rows ≡ some i → full rows ≡ false
+somewhere-not-full rows i e = ap not (place-some isEmpty rows i e)

@@ -1,0 +1,73 @@
+use borrow.Author.Needs.{needs}
+use Rattle.board.proofs.changing.change.Statement.{statement}
+use Rattle.board.proofs.changing.change.Tie as tie
+use Prim.Native.Nat.{_≤_, _-_}
+use native.Mathlib.Omega.{arith}
+use mathlib.Core.Path.{_≡_, refl, ap, _∙_}
+use lib.ListN.{length}
+use mathlib.Core.List.{List}
+use Rattle.octets.proofs.Places.{changedTo, changed-step, changed-all}
+use Rattle.board.specs.declared.Row.{Row}
+use Rattle.board.specs.Changes.{rowAfter, changedRows, withRows}
+use Rattle.board.proofs.Long.{board-long}
+
+abbrev Inv-loop : tie.InvT-loop
+Inv-loop board change rows₀ i₀ rows i = (i ≤ 64) × (rows ≡ changedTo (rowAfter change) i (board .rows))
+
+abbrev μ-loop : tie.MeasureT-loop
+μ-loop board change rows₀ i₀ rows i = 64 - i
+
+long : (c : tie.Start Inv-loop μ-loop) → length (c .args .board .rows) ≡ 64
+long c = board-long (c .args .board) (c .good .0)
+
+loop-holds : tie.Need-loop-holds Inv-loop μ-loop
+loop-holds c = search needs
+
+mul-row-after : tie.Need-mul-row-after Inv-loop μ-loop
+mul-row-after c = search needs
+
+array-copy-out-row-after : tie.Need-array-copy-out-row-after Inv-loop μ-loop
+array-copy-out-row-after c = search needs
+
+row-after-requires : tie.Need-row-after-requires Inv-loop μ-loop
+row-after-requires c κs = search needs
+
+mul-rows : tie.Need-mul-rows Inv-loop μ-loop
+mul-rows c = search needs
+
+array-set-from-rows : tie.Need-array-set-from-rows Inv-loop μ-loop
+array-set-from-rows c = search needs
+
+add-i : tie.Need-add-i Inv-loop μ-loop
+add-i c = search needs
+
+loop-less : tie.Need-loop-less Inv-loop μ-loop
+loop-less c = search needs
+
+loop-again : tie.Need-loop-again Inv-loop μ-loop
+loop-again c =
+    let l = long (c .before .before .before .before .before) in
+    (search needs, changed-step _ _ _ _ _ _ (omega arith) (c .before .before .before .loop .inv .1) (c .row-after .ensures))
+
+returns : tie.Need-returns Inv-loop μ-loop
+unfolding changedRows
+returns c =
+    let l = long (c .before .before .before .before .before) in
+    ap (λ (r : List Row). withRows r (c .before .before .before .before .before .args .board)) (c .before .before .before .loop .inv .1 ∙ changed-all (rowAfter (c .before .before .before .before .before .args .change)) (c .before .before .before .loop .i) (c .before .before .before .before .before .args .board .rows) (omega arith))
+
+pub change-spec : {M : Type 1} → statement M
+change-spec =
+    tie.close
+    (tie.spec
+    Inv-loop
+    μ-loop
+    loop-holds
+    mul-row-after
+    array-copy-out-row-after
+    row-after-requires
+    mul-rows
+    array-set-from-rows
+    add-i
+    loop-less
+    loop-again
+    returns)

@@ -1,0 +1,40 @@
+-- What a row is found by (document 01, "The board", "Event records" and "Serving it"): the events name a call by its reference, a far party by its
+-- leg and a call by its LinkId, and Open takes an empty row.
+use Prim.Native.Nat.{ℕ}
+use mathlib.Core.Bool.{Bool, true, false, _&&_, not}
+use mathlib.Core.Option.{Option, none, some}
+use lib.Dec.{eqb}
+use lib.IntN.{ℤ}
+use Rattle.octets.specs.declared.LinkId.{LinkId}
+use Rattle.board.specs.declared.OptionalLinkId.{OptionalLinkId}
+use Rattle.board.specs.declared.Call.{Call}
+use Rattle.board.specs.declared.Standing.{Standing}
+use Rattle.board.specs.declared.Standing.the-variants.{Empty, Served, Joined}
+use Rattle.board.specs.declared.Row.{Row}
+use Rattle.board.specs.declared.finding.Key.{Key}
+use Rattle.board.specs.declared.finding.Key.the-variants as key
+use Rattle.board.specs.Entries.{occupied, linkIdIn, isLinkId}
+use Rattle.board.specs.Lookup.{hasCallOf}
+
+-- "6, Open: leg on the board", "10, Release, Answer: no such leg": a row that is not empty has that leg
+abbrev pub hasRowLeg : ℕ → Row → Bool
+hasRowLeg n row = occupied (row .standing) && eqb n (row .leg)
+
+-- "A LinkId lives until its call is released or transferred": the LinkId of a row's call
+abbrev pub standingLinkId : Standing → Option ℤ
+standingLinkId Empty = none
+standingLinkId (Served c) = linkIdIn (c .link)
+standingLinkId (Joined p a) = none
+
+abbrev pub hasRowLinkId : ℤ → Row → Bool
+hasRowLinkId z row = isLinkId z (standingLinkId (row .standing))
+
+-- "Open takes the lowest empty row"
+abbrev pub isEmpty : Row → Bool
+isEmpty row = not (occupied (row .standing))
+
+abbrev pub matchesKey : Key → Row → Bool
+matchesKey (key.Reference r) row = hasCallOf (r .0) row
+matchesKey (key.Leg n) row = hasRowLeg n row
+matchesKey (key.LinkId l) row = hasRowLinkId (l .0) row
+matchesKey key.Empty row = isEmpty row

@@ -1,0 +1,128 @@
+// Finding a row of the board: one loop for every key that the rules look a row up by.
+ghost use mathlib.Core.Path.{_≡_};
+ghost use Rattle.octets.specs.Lists.{placeFrom};
+ghost use Rattle.octets.specs.Numbers.{sameLinkId, nextLinkId};
+ghost use Rattle.board.specs.Entries.{occupied, linkIdIn, isLinkId};
+ghost use Rattle.board.specs.Lookup.{isCallOf, foundAt, lookup as lookupRows};
+ghost use Rattle.board.specs.Keys.{standingLinkId, matchesKey};
+ghost use Rattle.board.specs.LinkIds.{liveLinkIds, freeLinkId, optionalLinkId};
+use crate::Board;
+use crate::Call;
+use crate::Found;
+use crate::OptionalLinkId;
+use crate::Row;
+use crate::Standing;
+use octets::CallReference;
+use octets::LinkId;
+
+// What a row is found by: its call's reference, its leg, its call's LinkId; or that it is empty.
+pub enum Key {
+    Reference(CallReference),
+    Leg(u32),
+    LinkId(LinkId),
+    Empty,
+}
+
+fn is_occupied(standing: Standing) -> bool
+    ensures { λ r. ⌜ r ≡ occupied standing ⌝ }
+{
+    match standing {
+        Standing::Empty => false,
+        Standing::Served(_) => true,
+        Standing::Joined { .. } => true,
+    }
+}
+
+fn is_call_of(standing: Standing, reference: CallReference) -> bool
+    ensures { λ r. ⌜ r ≡ isCallOf (reference .0) standing ⌝ }
+{
+    match standing {
+        Standing::Empty => false,
+        Standing::Served(call) => reference.0 == call.reference.0,
+        Standing::Joined { .. } => false,
+    }
+}
+
+fn same_link_id(a: LinkId, b: LinkId) -> bool
+    ensures { λ r. ⌜ r ≡ sameLinkId (a .0) (b .0) ⌝ }
+{
+    a.0 == b.0
+}
+
+fn is_link_id(link: OptionalLinkId, id: LinkId) -> bool
+    ensures { λ r. ⌜ r ≡ isLinkId (id .0) (linkIdIn link) ⌝ }
+{
+    match link {
+        OptionalLinkId::Absent => false,
+        OptionalLinkId::Present(own) => same_link_id(id, own),
+    }
+}
+
+fn has_link_id(standing: Standing, id: LinkId) -> bool
+    ensures { λ r. ⌜ r ≡ isLinkId (id .0) (standingLinkId standing) ⌝ }
+{
+    match standing {
+        Standing::Empty => false,
+        Standing::Served(call) => {
+            let link = call.link;
+            is_link_id(link, id)
+        }
+        Standing::Joined { .. } => false,
+    }
+}
+
+fn matches(row: Row, key: Key) -> bool
+    ensures { λ r. ⌜ r ≡ matchesKey key row ⌝ }
+{
+    let standing = row.standing;
+    match key {
+        Key::Reference(reference) => is_call_of(standing, reference),
+        Key::Leg(leg) => is_occupied(standing) & (leg == row.leg),
+        Key::LinkId(id) => has_link_id(standing, id),
+        Key::Empty => !is_occupied(standing),
+    }
+}
+
+// The lowest place, counted from 0, whose row has the key.
+pub fn find(board: Board, key: Key) -> Found
+    ensures { λ r. ⌜ r ≡ foundAt (placeFrom (matchesKey key) 0 (board .rows)) ⌝ }
+{
+    for i in 0..64 {
+        if matches(board.rows[i], key) {
+            return Found::At(i);
+        }
+    }
+    Found::Nothing
+}
+
+// The lowest place, counted from 0, with a call of that reference.
+pub fn lookup(board: Board, reference: CallReference) -> Found
+    ensures { λ r. ⌜ r ≡ lookupRows (reference .0) (board .rows) ⌝ }
+{
+    find(board, Key::Reference(reference))
+}
+
+fn next_link_id(id: LinkId) -> LinkId
+    ensures { λ r. ⌜ r ≡ record { 0 = nextLinkId (id .0) } ⌝ }
+{
+    let z = id.0;
+    if z == 32767 {
+        LinkId(-32768)
+    } else {
+        LinkId(z + 1)
+    }
+}
+
+// The first LinkId that is not live, from the candidate upward. Of 16 values one is free unless 16 are live.
+pub fn free_link_id(board: Board) -> OptionalLinkId
+    ensures { λ r. ⌜ r ≡ optionalLinkId (freeLinkId 16 (board .candidate .0) (liveLinkIds (board .rows))) ⌝ }
+{
+    let mut id = board.candidate;
+    for k in 0..16u8 {
+        if let Found::Nothing = find(board, Key::LinkId(id)) {
+            return OptionalLinkId::Present(id);
+        }
+        id = next_link_id(id);
+    }
+    OptionalLinkId::Absent
+}
