@@ -26,6 +26,9 @@ pub record Entry : Type 0 where
   pub leg : ℕ
   pub connection : Connection
 
+abbrev pub entry : ℕ → Connection → Entry
+entry l c = record { leg = l; connection = c }
+
 -- a far party with a call: its leg and its call with the served user
 pub record Party : Type 0 where
   pub leg : ℕ

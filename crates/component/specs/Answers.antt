@@ -1,8 +1,8 @@
 -- The components written: Rejects (document 01, "Reading a component"), errors and results ("Serving it").
-use Prim.Native.Nat.{ℕ}
+use Prim.Native.Nat.{ℕ, _-_}
 use mathlib.Core.List.{List, [], _∷_, _++_}
 use lib.IntN.{ℤ}
-use lib.ListN.{length}
+use lib.ListN.{length, replicate}
 use Rattle.octets.specs.declared.IntegerOctets.{IntegerOctets}
 use Rattle.octets.specs.declared.IntegerOctets.the-variants.{One, Two}
 use Rattle.octets.specs.Numbers.{fewest}
@@ -10,6 +10,7 @@ use Rattle.component.specs.declared.Reject.{Reject}
 use Rattle.component.specs.declared.Reject.the-variants.{Null, General, Invoke}
 use Rattle.component.specs.declared.Answer.{Answer}
 use Rattle.component.specs.declared.Answer.the-variants as answer
+use Rattle.component.specs.declared.Component.{Component}
 use Rattle.component.specs.Reading.{ectObject}
 
 -- an element: its tag, its length, its contents
@@ -38,3 +39,7 @@ answerOctets (answer.Error i e) = element 0xA3 (integer i ++ (0x02 ∷ 0x01 ∷ 
 answerOctets (answer.LinkIdNotAssigned i) = element 0xA3 (integer i ++ element 0x06 (ectObject 0x15))
 answerOctets (answer.Result i) = element 0xA2 (integer i)
 answerOctets (answer.LinkIdResult i l) = element 0xA2 (integer i ++ element 0x30 (element 0x06 (ectObject 0x04) ++ integer (fewest (l .0))))
+
+-- "count 1, component in 32 octets, zero filled" (document 01, "Reply records")
+unfoldable pub encoded : Answer → Component
+encoded a = record { octets = answerOctets a ++ replicate (32 - length (answerOctets a)) 0; count = length (answerOctets a) }

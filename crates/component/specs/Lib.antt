@@ -1,3 +1,6 @@
+-- What components are read as, and the octets of the answers.
 pub mod Elements
 pub mod Reading
+pub mod Readers
 pub mod Answers
+pub mod Writers

@@ -49,17 +49,23 @@ linkIdReading i none = Rejected (Invoke i 2)
 linkIdReading i (some o) = Invoked i (ExplicitEctExecute (record { 0 = integerOf o }))
 
 -- "Operation: .. object identifier 04 00 82 71 01 then 01 ExplicitEctExecute or 04 EctLinkIdRequest. Else invoke problem 1."
--- "Second element neither 02 of length 1 or 2, nor 06 of length 1 or more: general problem 1 with the identifier."
-abbrev pub objectReading : IntegerOctets → Option (List ℕ) → List ℕ → Reading
-objectReading i none rest = Rejected (General i 1)
-objectReading i (some o) rest =
+abbrev pub globalReading : IntegerOctets → List ℕ → List ℕ → Reading
+globalReading i o rest =
     cond (sameOctets o (ectObject 0x01)) (linkIdReading i (integerIn (firstElement rest)))
     (cond (sameOctets o (ectObject 0x04)) (Invoked i EctLinkIdRequest) (Rejected (Invoke i 1)))
 
+-- "Second element neither 02 of length 1 or 2, nor 06 of length 1 or more: general problem 1 with the identifier."
+abbrev pub objectReading : IntegerOctets → Option (List ℕ) → List ℕ → Reading
+objectReading i none rest = Rejected (General i 1)
+objectReading i (some o) rest = globalReading i o rest
+
 -- "Operation: local 6 EctExecute; .. Else invoke problem 1."
+abbrev pub localReading : IntegerOctets → IntegerOctets → Reading
+localReading i o = cond (sameLinkId (integerOf o) (pos 6)) (Invoked i EctExecute) (Rejected (Invoke i 1))
+
 abbrev pub operationReading : IntegerOctets → Option IntegerOctets → Element → Reading
 operationReading i none e = objectReading i (objectIn e) (after e)
-operationReading i (some o) e = cond (sameLinkId (integerOf o) (pos 6)) (Invoked i EctExecute) (Rejected (Invoke i 1))
+operationReading i (some o) e = localReading i o
 
 -- what follows the invoke identifier
 unfoldable pub identifiedReading : IntegerOctets → List ℕ → Reading

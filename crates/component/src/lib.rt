@@ -1,6 +1,14 @@
 // Components of remote operations: what an invoke asks for, and the answers to it.
+mod answers;
+mod elements;
+mod invoke;
+mod values;
+
 use octets::IntegerOctets;
 use octets::LinkId;
+ghost use mathlib.Core.Path.{_≡_};
+ghost use Rattle.component.specs.Reading.{reading};
+ghost use Rattle.component.specs.Answers.{encoded};
 
 // What an invoke asks for.
 pub enum Operation {
@@ -32,4 +40,37 @@ pub enum Answer {
     LinkIdNotAssigned(IntegerOctets),
     Result(IntegerOctets),
     LinkIdResult(IntegerOctets, LinkId),
+}
+
+// A component to be sent: as many octets as the count says, then zeros.
+pub struct Component {
+    pub octets: [u8; 32],
+    pub count: u8,
+}
+
+// Reads a component of any length and content.
+pub fn read(component: &[u8]) -> Reading
+    ensures { λ r. ⌜ r ≡ reading (now (component .entry)) ⌝ }
+{
+    if component.len() == 0 {
+        return Reading::Rejected(Reject::Null(0));
+    }
+    let tag = component[0];
+    if 0xa2 <= tag {
+        if tag <= 0xa4 {
+            return Reading::Ignored;
+        }
+        return Reading::Rejected(Reject::Null(0));
+    }
+    if tag != 0xa1 {
+        return Reading::Rejected(Reject::Null(0));
+    }
+    invoke::read_framed(&component[1..])
+}
+
+// The octets of an answer.
+pub fn encode(answer: Answer) -> Component
+    ensures { λ r. ⌜ r ≡ encoded answer ⌝ }
+{
+    answers::write(answer)
 }

@@ -11,11 +11,10 @@ use lib.Dec.{eqb, leb, le→leb, nleb→lt, leb→le}
 use lib.ListN.{length}
 use lib.IntN.{ℤ}
 use Rattle.board.proofs.Soundness.{Sound, isNumber-same, refs-one, one-leg}
-use Rattle.board.specs.Changes.{withState, withAuxiliary, withLinkId, full}
+use Rattle.board.specs.Changes.{withState, withAuxiliary, withLinkId}
 use Rattle.board.specs.Counts.{legs}
-use Rattle.board.specs.Entries.{Connection, Entry, calls, Party, WithUser, partyOf, WithPartner, hasLeg, hasReference, referenceOf, linkIds, linked, linkIdOf, linkIdIn, present, hasLinkId, isLinkId, isNumber, isPartner}
+use Rattle.board.specs.Entries.{entry, Connection, calls, Entry, Party, WithUser, partyOf, WithPartner, hasLeg, hasReference, referenceOf, linkIds, linked, linkIdOf, linkIdIn, present, hasLinkId, isLinkId, isNumber, isPartner}
 use Rattle.board.specs.LinkIds.{freeLinkId, unlessLive}
-use Rattle.board.specs.Making.{fresh}
 use Rattle.board.specs.Soundness.{answersTo, partnered, joinedBack, validPartner, sameLinkIds, validEntry, sameLegs, sameReferences, sameNumbers, validConnection, sameLinkIdsIn}
 use Rattle.board.specs.States.{validReference, validCall, validDirection, holdable, idle, delivered, sameState, active, outgoing}
 use Rattle.board.specs.declared.AuxiliaryState.{AuxiliaryState}
@@ -25,30 +24,23 @@ use Rattle.board.specs.declared.CallState.the-variants.{OutgoingCallProceeding,
 use Rattle.board.specs.declared.Direction.{Direction}
 use Rattle.board.specs.declared.Direction.the-variants.{Outgoing, Incoming}
 use Rattle.board.specs.declared.Options.{Options}
-use Rattle.component.specs.Reading.{reading}
-use Rattle.component.specs.declared.Operation.{Operation}
-use Rattle.component.specs.declared.Operation.the-variants.{EctExecute, ExplicitEctExecute, EctLinkIdRequest}
-use Rattle.component.specs.declared.Reading.{Reading}
-use Rattle.component.specs.declared.Reading.the-variants.{Ignored, Rejected, Invoked}
+use Rattle.ect.proofs.Decided.{decided, ComesTo, silent, respond, assigned, transferred, Decided, refuses, opens-leg, sets-state, sets-auxiliary, releases, serves, ends-alerting}
 use Rattle.ect.proofs.Order.{calls-one}
-use Rattle.ect.specs.Book.{mapConnection, changeCall, entriesAfter, stays, endAlerting, joinLegs, serviceEntries}
-use Rattle.ect.specs.Checks.{opened, named, isNamed, mayProgress, decide, decideProgress, SetState, Refuse, decideHold, mayHold, SetAuxiliary, decideOpen, OpenLeg, entryAt, decideRelease, decideFacility, decideAlerting, decideAnswer}
-use Rattle.ect.specs.EventRecords.{Open, Progress, Hold, Release, Answer, Request, inRange, Malformed, Facility}
+use Rattle.ect.specs.Book.{mapConnection, changeCall, stays, endAlerting, joinLegs, serviceEntries, entriesAfter}
+use Rattle.ect.specs.Checks.{opened, named, isNamed, mayProgress, decide, Decision}
+use Rattle.ect.specs.EventRecords.{Request, inRange}
 use Rattle.ect.specs.Pairing.{verdict, pairs, heldWithIdle}
-use Rattle.ect.specs.Serving.{live, sameCall, partnerFor, Transfer, perform, execute, partyLinkId, executeExplicitly, error, assign, linkIdRequest, serve}
-use Rattle.ect.specs.declared.Refusal.the-variants.{NotPermitted}
-use Rattle.octets.proofs.Lists.{pick-mem, mem-pick, any-has, right, all-at, true-not-false, eqb-eq, left, is-not, both, any-of, eqb-self, none-by, or-right, all-by, any-map, any-ext, distinct-map, all-map, all-ext, map-mem, length-keep-map, small-mem, find-mem, mem-keep, test, or-false, none-of, or-left, is-true, keep-map-le, from-true, eqb-of, neither, keep-mem, distinct-keep, keep-keep-le, mem-map, keep-none, eqb-sym, only-mem}
+use Rattle.ect.specs.Serving.{live, sameCall, partnerFor, Transfer, Service}
+use Rattle.ect.specs.Situations.{call}
+use Rattle.octets.proofs.Lists.{pick-mem, mem-pick, any-has, right, all-at, true-not-false, eqb-eq, left, is-not, both, any-of, eqb-self, none-by, or-right, all-by, any-map, any-ext, distinct-map, all-map, all-ext, map-mem, length-keep-map, small-mem, find-mem, mem-keep, test, or-false, none-of, or-left, is-true, keep-map-le, from-true, eqb-of, neither, keep-mem, distinct-keep, keep-keep-le, mem-map, keep-none, eqb-sym}
 use Rattle.octets.proofs.SameLinkId.{sameLinkId-eq, sameLinkId-self}
-use Rattle.octets.specs.Lists.{any, distinct, keep, find, consOpt, consIf, only}
+use Rattle.octets.specs.Lists.{any, distinct, keep, consOpt, consIf}
 use Rattle.octets.specs.Numbers.{sameLinkId, nextLinkId}
 use Rattle.octets.specs.declared.IntegerOctets.{IntegerOctets}
 use Rattle.octets.specs.declared.LinkId.{LinkId}
 use Rattle.ect.specs.declared.Refusal.the-variants as refusal
 
 -- ---- a leg and its connection
-
-abbrev pub entry : ℕ → Connection → Entry
-entry n t = record { leg = n; connection = t }
 
 pub entry-path : {m n : ℕ} {t u : Connection} → m ≡ n → t ≡ u → entry m t ≡ entry n u
 entry-path p q = λ i. record { leg = p i; connection = q i }
@@ -220,38 +212,28 @@ moved-right Active CallDelivered d i b m h = absurd (true-not-false m refl)
 moved-right Active CallReceived d i b m h = absurd (true-not-false m refl)
 moved-right Active Active d i b m h = absurd (true-not-false m refl)
 
-moves-sound : (es : List Entry) (r : ℕ) (t : CallState) (o : Option Party) → Sound es → named r es ≡ o → Sound (entriesAfter (decideProgress r t o) es)
-unfolding entriesAfter
-moves-sound es r t none s e = s
-moves-sound es r t (some p) s e = go (mayProgress (p .call .state) t) refl
+moves-sound : (es : List Entry) → Sound es → (r : ℕ) (s : CallState) {p : Party} → named r es ≡ some p → mayProgress (p .call .state) s ≡ true →
+    Sound (map (mapConnection (changeCall r (withState s))) es)
+moves-sound es v r s e h = plain-sound r (withState s) (λ c. refl) (λ c. refl) es v ok
   where
-    go : (b : Bool) → mayProgress (p .call .state) t ≡ b → Sound (entriesAfter (cond b (SetState r t) (Refuse refusal.NotPermitted)) es)
-    go true h = plain-sound r (withState t) (λ c. refl) (λ c. refl) es s ok
-      where
-        ok : (n : ℕ) (c : Call) → List·Memᴰ (entry n (WithUser c)) es → eqb r (c .reference .0) ≡ true → validCall (withState t c) ≡ true
-        ok n c m k =
-            moved-right (c .state) t (c .direction) (idle c) (validReference (c .reference .0))
-            (ap (λ (q : Party). mayProgress (q .call .state) t) (sym (the-named s r e n c m k)) ∙ h)
-            (all-at validEntry m (s .rights))
-    go false h = s
+    ok : (n : ℕ) (c : Call) → List·Memᴰ (entry n (WithUser c)) es → eqb r (c .reference .0) ≡ true → validCall (withState s c) ≡ true
+    ok n c m k =
+        moved-right (c .state) s (c .direction) (idle c) (validReference (c .reference .0))
+        (ap (λ (q : Party). mayProgress (q .call .state) s) (sym (the-named v r e n c m k)) ∙ h)
+        (all-at validEntry m (v .rights))
 
 held-right : (s : CallState) (d : Direction) (i j b : Bool) → holdable s ≡ true → (b && validDirection s d && (i || holdable s)) ≡ true → (b && validDirection s d && (j || holdable s)) ≡ true
 held-right s d i j b k h = both (left (b && validDirection s d) _ h) (or-right j (holdable s) k)
 
-holds-sound : (es : List Entry) (r : ℕ) (x : AuxiliaryState) (o : Option Party) → Sound es → named r es ≡ o → Sound (entriesAfter (decideHold r x o) es)
-unfolding entriesAfter
-holds-sound es r x none s e = s
-holds-sound es r x (some p) s e = go (holdable (p .call .state) && mayHold (p .call .auxiliary) x) refl
+holds-sound : (es : List Entry) → Sound es → (r : ℕ) (x : AuxiliaryState) {p : Party} → named r es ≡ some p → holdable (p .call .state) ≡ true →
+    Sound (map (mapConnection (changeCall r (withAuxiliary x))) es)
+holds-sound es v r x e h = plain-sound r (withAuxiliary x) (λ c. refl) (λ c. refl) es v ok
   where
-    go : (b : Bool) → (holdable (p .call .state) && mayHold (p .call .auxiliary) x) ≡ b → Sound (entriesAfter (cond b (SetAuxiliary r x) (Refuse refusal.NotPermitted)) es)
-    go true h = plain-sound r (withAuxiliary x) (λ c. refl) (λ c. refl) es s ok
-      where
-        ok : (n : ℕ) (c : Call) → List·Memᴰ (entry n (WithUser c)) es → eqb r (c .reference .0) ≡ true → validCall (withAuxiliary x c) ≡ true
-        ok n c m k =
-            held-right (c .state) (c .direction) (idle c) (idle (withAuxiliary x c)) (validReference (c .reference .0))
-            (ap (λ (q : Party). holdable (q .call .state)) (sym (the-named s r e n c m k)) ∙ left (holdable (p .call .state)) _ h)
-            (all-at validEntry m (s .rights))
-    go false h = s
+    ok : (n : ℕ) (c : Call) → List·Memᴰ (entry n (WithUser c)) es → eqb r (c .reference .0) ≡ true → validCall (withAuxiliary x c) ≡ true
+    ok n c m k =
+        held-right (c .state) (c .direction) (idle c) (idle (withAuxiliary x c)) (validReference (c .reference .0))
+        (ap (λ (q : Party). holdable (q .call .state)) (sym (the-named v r e n c m k)) ∙ h)
+        (all-at validEntry m (v .rights))
 
 -- ---- a new LinkId
 
@@ -266,7 +248,7 @@ free-is-free (suc n) y used {z} e = go (any (sameLinkId y) used) refl e (free-is
     go true h e f = f e
     go false h e f = let d : y ≡ z = cc in subst (λ (w : ℤ). any (sameLinkId w) used ≡ false) d h
 
-live-any : (z : ℤ) (es : List Entry) → any (sameLinkId z) (live (calls es)) ≡ any (hasLinkId z) es
+pub live-any : (z : ℤ) (es : List Entry) → any (sameLinkId z) (live (calls es)) ≡ any (hasLinkId z) es
 live-any z [] = refl
 live-any z (e ∷ es) = go (e .leg) (e .connection) (live-any z es)
   where
@@ -278,7 +260,7 @@ live-any z (e ∷ es) = go (e .leg) (e .connection) (live-any z es)
     go n (WithUser c) h = link (linkIdIn (c .link)) h
     go n (WithPartner p a) h = h
 
-live-length : (es : List Entry) → length (live (calls es)) ≡ linkIds es
+pub live-length : (es : List Entry) → length (live (calls es)) ≡ linkIds es
 live-length [] = refl
 live-length (e ∷ es) = go (e .leg) (e .connection) (live-length es)
   where
@@ -607,75 +589,21 @@ pair-sound es s opt p q i mp mq h =
 
 -- ---- whatever is decided
 
-module _ (es : List Entry) (s : Sound es) (z : ℤ) (p : Party) (mp : List·Memᴰ p (calls es)) where
-  perform-sound : (opt : Options) (i : IntegerOctets) (o : Operation) → Sound (serviceEntries p (perform opt z (calls es) p i o) es)
-  perform-sound opt i EctExecute = go (only (keep (partnerFor opt p) (calls es))) refl
-    where
-      go : (o : Option Party) → only (keep (partnerFor opt p) (calls es)) ≡ o → Sound (serviceEntries p (execute p i o) es)
-      go none e = s
-      go (some q) e = let r = keep-mem (partnerFor opt p) (calls es) (only-mem (keep (partnerFor opt p) (calls es)) e) in pair-sound es s opt p q i mp (r .0) (r .1)
-  perform-sound opt i (ExplicitEctExecute y) = go (find (λ (q : Party). isLinkId (y .0) (partyLinkId q)) (calls es)) refl
-    where
-      go : (o : Option Party) → find (λ (q : Party). isLinkId (y .0) (partyLinkId q)) (calls es) ≡ o → Sound (serviceEntries p (executeExplicitly opt p i o) es)
-      go none e = s
-      go (some q) e = by (partnerFor opt p q) refl
-        where
-          by : (b : Bool) → partnerFor opt p q ≡ b → Sound (serviceEntries p (cond b (Transfer p q i) (error i 7)) es)
-          by true h = pair-sound es s opt p q i mp (find-mem (λ (q : Party). isLinkId (y .0) (partyLinkId q)) (calls es) e .0) h
-          by false h = s
-  perform-sound opt i EctLinkIdRequest = go (partyLinkId p)
-    where
-      fresh : (b : Bool) → leb 16 (length (live (calls es))) ≡ b → Sound (serviceEntries p (cond b (error i 11) (assign i (freeLinkId 16 z (live (calls es))))) es)
-      fresh true h = s
-      fresh false h = by (freeLinkId 16 z (live (calls es))) refl
-        where
-          by : (o : Option ℤ) → freeLinkId 16 z (live (calls es)) ≡ o → Sound (serviceEntries p (assign i o) es)
-          by none e = s
-          by (some y) e = gives-sound (p .call .reference .0) y es s h (free-is-free 16 z (live (calls es)) e)
+service-sound : {opt : Options} {z : ℤ} {p : Party} {v : Service} (es : List Entry) → Sound es → List·Memᴰ p (calls es) → ComesTo opt z (calls es) p v → Sound (serviceEntries p v es)
+service-sound es s m silent = s
+service-sound es s m (respond a) = s
+service-sound {z} {p} es s m (assigned i e h) = gives-sound (p .call .reference .0) _ es s h (free-is-free 16 z (live (calls es)) e)
+service-sound {opt} {p} es s m (transferred {q = q} i n h) = pair-sound es s opt p q i m n h
 
-      go : (o : Option ℤ) → Sound (serviceEntries p (linkIdRequest z (live (calls es)) i o) es)
-      go none = fresh (leb 16 (length (live (calls es)))) refl
-      go (some y) = s
+kept-by : {opt : Options} {z : ℤ} {w : Bool} {q : Request} {d : Decision} (es : List Entry) → Sound es → inRange q ≡ true → Decided opt z w es q d → Sound (entriesAfter d es)
+unfolding entriesAfter
+kept-by es s k (refuses c) = s
+kept-by es s k (opens-leg {r = r} {l = l} {d = d} e f g) = enters-sound es l r d s (left (validReference r) _ k) e f
+kept-by es s k (sets-state {r = r} {s = t} e h) = moves-sound es s r t e h
+kept-by es s k (sets-auxiliary {r = r} {a = x} {p = p} e h) = holds-sound es s r x e (left (holdable (p .call .state)) _ h)
+kept-by es s k (releases {e = e} m h) = strikes-sound es s e m
+kept-by es s k (serves m v) = service-sound es s m v
+kept-by es s k (ends-alerting {l = l}) = stops-sound l es s
 
-  serve-sound : (opt : Options) (r : Reading) → Sound (serviceEntries p (serve opt z (calls es) p r) es)
-  unfolding serve
-  serve-sound opt Ignored = s
-  serve-sound opt (Rejected i) = s
-  serve-sound opt (Invoked i o) = go (eqb (opt .subscribed) 1)
-    where
-      go : (b : Bool) → Sound (serviceEntries p (cond b (perform opt z (calls es) p i o) (error i 0)) es)
-      go true = perform-sound opt i o
-      go false = s
-
-pub kept : (opt : Options) (z : ℤ) (full : Bool) (es : List Entry) (q : Request) → Sound es → inRange q ≡ true → Sound (entriesAfter (decide opt z full es q) es)
-unfolding entriesAfter decide
-kept opt z full es (Malformed c) s k = s
-kept opt z full es (Open r l d p n ds) s k = go (any (hasLeg l) es) (any (hasReference r) es) full refl refl
-  where
-    go : (x y w : Bool) → any (hasLeg l) es ≡ x → any (hasReference r) es ≡ y → Sound (entriesAfter (decideOpen x y w (OpenLeg l (opened r d) p n ds)) es)
-    go true y w h j = s
-    go false true w h j = s
-    go false false true h j = s
-    go false false false h j = enters-sound es l r d s (left (validReference r) _ k) h j
-kept opt z full es (Progress r t) s k = moves-sound es r t (named r es) s refl
-kept opt z full es (Hold r x) s k = holds-sound es r x (named r es) s refl
-kept opt z full es (Release l) s k = go (entryAt l es) refl
-  where
-    go : (o : Option Entry) → entryAt l es ≡ o → Sound (entriesAfter (decideRelease o) es)
-    go none e = s
-    go (some e₀) e = strikes-sound es s e₀ (find-mem (hasLeg l) es e .0)
-kept opt z full es (Facility r c) s k = go (named r es) refl
-  where
-    go : (o : Option Party) → named r es ≡ o → Sound (entriesAfter (decideFacility opt z es c o) es)
-    go none e = s
-    go (some p) e = serve-sound es s z p (find-mem (isNamed r) (calls es) e .0) opt (reading c)
-kept opt z full es (Answer l) s k = go (entryAt l es)
-  where
-    connection : (t : Connection) → Sound (entriesAfter (decideAlerting l t) es)
-    connection (WithUser c) = s
-    connection (WithPartner p true) = stops-sound l es s
-    connection (WithPartner p false) = s
-
-    go : (o : Option Entry) → Sound (entriesAfter (decideAnswer l o) es)
-    go none = s
-    go (some e) = connection (e .connection)
+pub kept : (opt : Options) (z : ℤ) (w : Bool) (es : List Entry) (q : Request) → Sound es → inRange q ≡ true → Sound (entriesAfter (decide opt z w es q) es)
+kept opt z w es q s k = kept-by es s k (decided opt z w es q)

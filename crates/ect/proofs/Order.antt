@@ -2,10 +2,9 @@
 use Prim.Native.Nat.{_≤_, ℕ, zero, suc}
 use native.Mathlib.Nat.{le-trans}
 use mathlib.Core.Path.{_∙_, _≡_, refl, ap, ap₂}
-use mathlib.Core.Bool.{Bool, cond}
+use mathlib.Core.Bool.{Bool}
 use mathlib.Core.List.{List}
 use mathlib.Core.Option.{Option, none, some}
-use lib.Dec.{leb, eqb}
 use lib.ListN.{length}
 use lib.IntN.{ℤ}
 use Rattle.board.proofs.Soundness.{Sound, refs-one, lids-one, legs-one}
@@ -20,7 +19,7 @@ use Rattle.component.specs.declared.Reading.{Reading}
 use Rattle.component.specs.declared.Reading.the-variants.{Ignored, Rejected, Invoked}
 use Rattle.ect.specs.Checks.{named, isNamed, decide, entryAt, decideFacility, Decision, ServeCall, decideOpen, OpenLeg, opened, decideProgress, decideHold, decideRelease, decideAnswer}
 use Rattle.ect.specs.EventRecords.{Request, Facility, Malformed, Open, Progress, Hold, Release, Answer}
-use Rattle.ect.specs.Serving.{partyLinkId, linkIdRequest, live, error, assign, perform, execute, partnerFor, executeExplicitly, serve, Service}
+use Rattle.ect.specs.Serving.{partyLinkId, linkIdRequest, live, newLinkId, perform, execute, partnerFor, executeExplicitly, serve, ifSubscribed}
 use Rattle.octets.proofs.Lists.{testOpt, keep-pick-le, Perm, length-perm, pick-perm, any-perm, only-perm, keep-perm, find-perm}
 use Rattle.octets.specs.Lists.{keep, any}
 use Rattle.octets.specs.Numbers.{sameLinkId, nextLinkId}
@@ -53,8 +52,8 @@ freeLink-same u v h (suc n) z = ap₂ (λ (b : Bool) (o : Option ℤ). unlessLiv
 
 request-perm : {l m : List Party} → Perm l m → (z : ℤ) (i : IntegerOctets) (o : Option ℤ) → linkIdRequest z (live l) i o ≡ linkIdRequest z (live m) i o
 request-perm {l} {m} p z i none =
-    ap₂ (λ (b : Bool) (f : Option ℤ). cond b (error i 11) (assign i f))
-    (ap (λ (n : ℕ). leb 16 n) (length-perm (pick-perm partyLinkId p)))
+    ap₂ (λ (n : ℕ) (f : Option ℤ). newLinkId n i f)
+    (length-perm (pick-perm partyLinkId p))
     (freeLink-same (live l) (live m) (λ y. any-perm (sameLinkId y) (pick-perm partyLinkId p)) 16 z)
 request-perm p z i (some y) = refl
 
@@ -67,7 +66,7 @@ serve-perm : {l m : List Entry} → Sound l → Perm l m → (opt : Options) (z 
 unfolding serve
 serve-perm v h opt z p Ignored = refl
 serve-perm v h opt z p (Rejected i) = refl
-serve-perm v h opt z p (Invoked i o) = ap (λ (x : Service). cond (eqb (opt .subscribed) 1) x (error i 0)) (perform-perm v h opt z p i o)
+serve-perm v h opt z p (Invoked i o) = ap (ifSubscribed opt i) (perform-perm v h opt z p i o)
 
 named-perm : {l m : List Entry} → Sound l → Perm l m → (r : ℕ) → named r l ≡ named r m
 named-perm v h r = find-perm (isNamed r) (pick-perm (λ (e : Entry). partyOf (e .leg) (e .connection)) h) (calls-one r v)

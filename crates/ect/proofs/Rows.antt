@@ -10,22 +10,23 @@ use lib.Arith.{lt→nleb}
 use lib.ListN.{length, length-map}
 use lib.IntN.{ℤ}
 use Rattle.board.specs.Changes.{changedCall, joined, answered, emptiedIf, changedRows, rowAfter, enter, full, enterAt, withLinkId, withState, withAuxiliary, mapStanding}
-use Rattle.board.specs.Entries.{taken, Entry, rowEntry, entryOf, Connection, WithPartner, WithUser, occupied, hasLeg, hasReference, Party}
+use Rattle.board.specs.Entries.{taken, Entry, rowEntry, entryOf, Connection, WithPartner, WithUser, occupied, Party}
 use Rattle.board.specs.Making.{emptyRow}
 use Rattle.board.specs.Soundness.{validDigits, validStanding, validRow}
-use Rattle.board.specs.States.{delivered, validReference, holdable}
+use Rattle.board.specs.States.{delivered, validReference}
 use Rattle.board.specs.declared.Call.{Call}
 use Rattle.board.specs.declared.Change.the-variants.{ReleasePair}
 use Rattle.board.specs.declared.Options.{Options}
 use Rattle.board.specs.declared.Row.{Row}
 use Rattle.board.specs.declared.Standing.{Standing}
 use Rattle.board.specs.declared.Standing.the-variants.{Empty, Served, Joined}
+use Rattle.ect.proofs.Decided.{Decided, refuses, opens-leg, sets-state, sets-auxiliary, releases, serves, ends-alerting, decided}
 use Rattle.ect.specs.Book.{mapConnection, changeCall, joinLegs, endAlerting, stays, serviceEntries, entriesAfter, serviceMoves, candidateMoves}
-use Rattle.ect.specs.Checks.{Decision, Refuse, OpenLeg, SetState, SetAuxiliary, ReleaseLeg, ServeCall, EndAlerting, decide, decideOpen, opened, named, decideProgress, mayProgress, decideHold, mayHold, entryAt, decideRelease, decideFacility, decideAlerting, decideAnswer}
-use Rattle.ect.specs.EventRecords.{Release, Open, Request, inRange, Malformed, Progress, Hold, Facility, Answer}
+use Rattle.ect.specs.Checks.{Decision, Refuse, OpenLeg, SetState, SetAuxiliary, ReleaseLeg, ServeCall, EndAlerting, decide}
+use Rattle.ect.specs.EventRecords.{Release, Request, inRange}
 use Rattle.ect.specs.Serving.{Service, Silent, Respond, AssignLinkId, Transfer}
+use Rattle.ect.specs.Situations.{call}
 use Rattle.ect.specs.Step.{releaseOf, serviceRows, rowsAfter, serviceCandidate, candidateAfter}
-use Rattle.ect.specs.declared.Refusal.the-variants.{NotPermitted}
 use Rattle.octets.proofs.Lists.{Perm, true-not-false, p-trans, p-skip, p-swap, p-of, is-not, is-true, right, p-refl, map-perm, keep-perm, all-map, all-ext, left, all-by, all-at, both}
 use Rattle.octets.specs.Lists.{consOpt, keep, all, consIf, any}
 use Rattle.octets.specs.declared.CallReference.{CallReference}
@@ -148,54 +149,17 @@ Fine w (ReleaseLeg e) = Unit {0}
 Fine w (ServeCall p s) = Unit {0}
 Fine w (EndAlerting l p) = Unit {0}
 
+fine-by : {opt : Options} {z : ℤ} {w : Bool} {es : List Entry} {q : Request} {d : Decision} → inRange q ≡ true → Decided opt z w es q d → Fine w d
+fine-by h (refuses c) = tt
+fine-by h (opens-leg {r = r} e f g) = (g, right (validReference r) _ h)
+fine-by h (sets-state e k) = tt
+fine-by h (sets-auxiliary e k) = tt
+fine-by h (releases m k) = tt
+fine-by h (serves m v) = tt
+fine-by h ends-alerting = tt
+
 pub fine : (opt : Options) (z : ℤ) (w : Bool) (es : List Entry) (q : Request) → inRange q ≡ true → Fine w (decide opt z w es q)
-unfolding decide
-fine opt z w es (Malformed c) h = tt
-fine opt z w es (Open r l d p n ds) h = go (any (hasLeg l) es) (any (hasReference r) es) w
-  where
-    go : (x y v : Bool) → Fine v (decideOpen x y v (OpenLeg l (opened r d) p n ds))
-    go true y v = tt
-    go false true v = tt
-    go false false true = tt
-    go false false false = (refl, right (validReference r) _ h)
-fine opt z w es (Progress r t) h = go (named r es)
-  where
-    by : (b : Bool) → Fine w (cond b (SetState r t) (Refuse refusal.NotPermitted))
-    by true = tt
-    by false = tt
-
-    go : (o : Option Party) → Fine w (decideProgress r t o)
-    go none = tt
-    go (some p) = by (mayProgress (p .call .state) t)
-fine opt z w es (Hold r x) h = go (named r es)
-  where
-    by : (b : Bool) → Fine w (cond b (SetAuxiliary r x) (Refuse refusal.NotPermitted))
-    by true = tt
-    by false = tt
-
-    go : (o : Option Party) → Fine w (decideHold r x o)
-    go none = tt
-    go (some p) = by (holdable (p .call .state) && mayHold (p .call .auxiliary) x)
-fine opt z w es (Release l) h = go (entryAt l es)
-  where
-    go : (o : Option Entry) → Fine w (decideRelease o)
-    go none = tt
-    go (some e) = tt
-fine opt z w es (Facility r c) h = go (named r es)
-  where
-    go : (o : Option Party) → Fine w (decideFacility opt z es c o)
-    go none = tt
-    go (some p) = tt
-fine opt z w es (Answer l) h = go (entryAt l es)
-  where
-    connection : (t : Connection) → Fine w (decideAlerting l t)
-    connection (WithUser c) = tt
-    connection (WithPartner p true) = tt
-    connection (WithPartner p false) = tt
-
-    go : (o : Option Entry) → Fine w (decideAnswer l o)
-    go none = tt
-    go (some e) = connection (e .connection)
+fine opt z w es q h = fine-by h (decided opt z w es q)
 
 -- ---- the rows after a decision
 

@@ -6,3 +6,5 @@ pub mod Checks
 pub mod Step
 pub mod Book
 pub mod History
+pub mod Situations
+pub mod Examples

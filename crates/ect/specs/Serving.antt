@@ -51,8 +51,11 @@ assign i none = error i 11
 assign i (some z) = AssignLinkId (record { 0 = z }) i
 
 -- "a call that has a LinkId gets it again (H). Else, with 16 live, e = 11. Else the first value not live from the candidate upward"
+abbrev pub newLinkId : ℕ → IntegerOctets → Option ℤ → Service
+newLinkId used i o = cond (leb 16 used) (error i 11) (assign i o)
+
 abbrev pub linkIdRequest : ℤ → List ℤ → IntegerOctets → Option ℤ → Service
-linkIdRequest candidate used i none = cond (leb 16 (length used)) (error i 11) (assign i (freeLinkId 16 candidate used))
+linkIdRequest candidate used i none = newLinkId (length used) i (freeLinkId 16 candidate used)
 linkIdRequest candidate used i (some z) = Respond (answer.LinkIdResult i (record { 0 = z }))
 
 -- ---- transfers
@@ -80,7 +83,10 @@ perform o candidate ps named i (ExplicitEctExecute l) = executeExplicitly o name
 perform o candidate ps named i EctLinkIdRequest = linkIdRequest candidate (live ps) i (partyLinkId named)
 
 -- "Not subscribed: e = 0, after any Reject above and before the rest."
+abbrev pub ifSubscribed : Options → IntegerOctets → Service → Service
+ifSubscribed o i s = cond (eqb (o .subscribed) 1) s (error i 0)
+
 unfoldable pub serve : Options → ℤ → List Party → Party → Reading → Service
 serve o candidate ps named Ignored = Silent
 serve o candidate ps named (Rejected r) = Respond (answer.Rejected r)
-serve o candidate ps named (Invoked i op) = cond (eqb (o .subscribed) 1) (perform o candidate ps named i op) (error i 0)
+serve o candidate ps named (Invoked i op) = ifSubscribed o i (perform o candidate ps named i op)

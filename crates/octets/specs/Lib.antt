@@ -1,2 +1,3 @@
+-- What numbers, LinkIds and searches over lists mean.
 pub mod Lists
 pub mod Numbers

@@ -26,6 +26,11 @@ numberOf os = numberAfter 0 os
 abbrev pub signed : ℕ → ℤ
 signed n = cond (ltb n 32768) (pos n) (negsuc (65535 - n))
 
+-- the sixteen bits of a number from -32768 to 32767, and back to it by `signed`
+abbrev pub bits : ℤ → ℕ
+bits (pos n) = n
+bits (negsuc n) = 65535 - n
+
 -- "Integers are two's complement of one or two octets"
 abbrev pub integerOf : IntegerOctets → ℤ
 integerOf (One a) = cond (ltb a 128) (pos a) (negsuc (255 - a))

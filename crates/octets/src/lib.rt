@@ -1,4 +1,6 @@
 // Numbers as octets: call references, LinkIds, and the integers of a component.
+ghost use mathlib.Core.Path.{_≡_};
+ghost use Rattle.octets.specs.Numbers.{signed, bits, integerOf, fewest, nextLinkId, sameLinkId};
 
 // A call reference: unsigned; its low 15 bits are not all zero where a board is sound.
 pub struct CallReference(pub u16);
@@ -10,4 +12,78 @@ pub struct LinkId(pub i16);
 pub enum IntegerOctets {
     One(u8),
     Two(u8, u8),
+}
+
+impl LinkId {
+    // The LinkId whose two's complement is these sixteen bits. A negative one is counted down from -1,
+    // so that no step leaves sixteen bits.
+    pub fn from_bits(n: u16) -> LinkId
+        ensures { λ r. ⌜ r ≡ record { 0 = signed n } ⌝ }
+    {
+        if n < 32768 {
+            LinkId(n as i16)
+        } else {
+            LinkId(-1 - ((65535 - n) as i16))
+        }
+    }
+
+    // Its sixteen bits of two's complement.
+    pub fn to_bits(self) -> u16
+        ensures { λ r. ⌜ r ≡ bits (self .0) ⌝ }
+    {
+        let z = self.0;
+        if 0 <= z {
+            z as u16
+        } else {
+            65535 - ((-1 - z) as u16)
+        }
+    }
+
+    // The LinkId after this one.
+    pub fn next(self) -> LinkId
+        ensures { λ r. ⌜ r ≡ record { 0 = nextLinkId (self .0) } ⌝ }
+    {
+        let z = self.0;
+        if z == 32767 {
+            LinkId(-32768)
+        } else {
+            LinkId(z + 1)
+        }
+    }
+
+    pub fn same(self, other: LinkId) -> bool
+        ensures { λ r. ⌜ r ≡ sameLinkId (self .0) (other .0) ⌝ }
+    {
+        self.0 == other.0
+    }
+
+    // The LinkId that an integer element says. One octet is widened by its sign.
+    pub fn from_octets(o: IntegerOctets) -> LinkId
+        ensures { λ r. ⌜ r ≡ record { 0 = integerOf o } ⌝ }
+    {
+        match o {
+            IntegerOctets::One(a) => {
+                if a < 128 {
+                    LinkId::from_bits(a as u16)
+                } else {
+                    LinkId::from_bits(65280 + (a as u16))
+                }
+            }
+            IntegerOctets::Two(a, b) => LinkId::from_bits((a as u16) * 256 + (b as u16)),
+        }
+    }
+
+    // The fewest octets that say this LinkId: one where the high octet only repeats the sign.
+    pub fn to_octets(self) -> IntegerOctets
+        ensures { λ r. ⌜ r ≡ fewest (self .0) ⌝ }
+    {
+        let n = self.to_bits();
+        if n < 128 {
+            return IntegerOctets::One((n % 256) as u8);
+        }
+        if 65408 <= n {
+            return IntegerOctets::One((n % 256) as u8);
+        }
+        IntegerOctets::Two((n / 256) as u8, (n % 256) as u8)
+    }
 }

@@ -1,0 +1,5 @@
+-- Laws of components, for the proofs of this crate and of those above it.
+pub mod ElementLaws
+pub mod ReadingLaws
+pub mod WriterLaws
+pub mod Length

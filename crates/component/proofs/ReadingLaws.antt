@@ -1,0 +1,167 @@
+-- Laws of a component's reading in the code's terms: a list's length decides its form. Assumes nothing.
+use Prim.Native.Nat.{ℕ, zero, suc, _+_, _-_, _≤_, _<_}
+use native.Mathlib.Omega.{arith}
+use mathlib.Core.Path.{_≡_, refl, sym, ap, _∙_}
+use mathlib.Core.List.{List, [], _∷_}
+use mathlib.Core.Bool.{Bool, true, false, _&&_, cond}
+use mathlib.Core.Option.{none, some}
+use lib.Dec.{eqb, leb}
+use lib.ListN.{length, getD, take, drop, length-drop}
+use lib.Seq.{length-take-le}
+use native.Mathlib.Nat.{add-sub-cancel}
+use borrow.Author.Tests.{eq-eqb, ne-eqb, le-leb}
+use Rattle.octets.specs.declared.IntegerOctets.{IntegerOctets}
+use Rattle.octets.specs.declared.IntegerOctets.the-variants.{One, Two}
+use Rattle.octets.specs.Lists.{sameOctets}
+use Rattle.component.specs.declared.Reading.the-variants.{Ignored, Rejected}
+use Rattle.component.specs.declared.Reject.the-variants.{Null}
+use Rattle.component.specs.declared.elements.FirstElement.{FirstElement}
+use Rattle.component.specs.declared.elements.FirstElement.the-variants as first
+use Rattle.component.specs.declared.values.Integer.{Integer}
+use Rattle.component.specs.declared.values.Integer.the-variants as integer
+use Rattle.component.specs.declared.values.Object.{Object}
+use Rattle.component.specs.declared.values.Object.the-variants as object
+use Rattle.component.specs.Elements.{Element, wholeElements}
+use Rattle.component.specs.Reading.{oneOrTwo, integerIn, objectIn, after, ectObject, invokeReading, framedReading, reading}
+use Rattle.component.specs.Readers.{Found, IntegerRead, ObjectRead}
+use Rattle.component.proofs.ElementLaws.{rest, found, ends}
+
+-- ---- an element as an integer
+first-one : (s : List ℕ) → 3 ≤ length s → take 1 (drop 2 s) ≡ getD s 2 0 ∷ []
+first-one [] h = absurd (omega arith)
+first-one (a ∷ []) h = absurd (omega arith)
+first-one (a ∷ b ∷ []) h = absurd (omega arith)
+first-one (a ∷ b ∷ d ∷ s) h = refl
+
+first-two : (s : List ℕ) → 4 ≤ length s → take 2 (drop 2 s) ≡ getD s 2 0 ∷ getD s 3 0 ∷ []
+first-two [] h = absurd (omega arith)
+first-two (a ∷ []) h = absurd (omega arith)
+first-two (a ∷ b ∷ []) h = absurd (omega arith)
+first-two (a ∷ b ∷ d ∷ []) h = absurd (omega arith)
+first-two (a ∷ b ∷ d ∷ e ∷ s) h = refl
+
+neither : (s : List ℕ) → (length s ≡ 1 → ⊥) → (length s ≡ 2 → ⊥) → oneOrTwo s ≡ none
+neither [] p q = refl
+neither (a ∷ []) p q = absurd (p refl)
+neither (a ∷ b ∷ []) p q = absurd (q refl)
+neither (a ∷ b ∷ d ∷ s) p q = refl
+
+-- what an element e of s is, where its tag and its length are known
+pub no-integer : {s : List ℕ} {e : Element} → none ≡ integerIn e → IntegerRead s integer.Other e
+no-integer q = record { is = q; rest = refl; within = omega arith }
+
+pub no-object : {s : List ℕ} {e : Element} → none ≡ objectIn e → ObjectRead s object.Other e
+no-object q = record { is = q; rest = refl; within = omega arith }
+
+module _ {s : List ℕ} {r : FirstElement} {e : Element} (f : Found s r e) {tag n : ℕ} (q : r ≡ first.Whole tag n) where
+  pub one : tag ≡ 2 → n ≡ 1 → IntegerRead s (integer.Whole (One (getD s 2 0)) 3) e
+  one t h =
+      let w : n + 2 ≤ length s = ends f q in
+      record { is = rw (found f q, eq-eqb tag 2 t, h, first-one s (omega arith)); rest = rw (found f q, h); within = omega arith }
+
+  pub two : tag ≡ 2 → n ≡ 2 → IntegerRead s (integer.Whole (Two (getD s 2 0) (getD s 3 0)) 4) e
+  two t h =
+      let w : n + 2 ≤ length s = ends f q in
+      record { is = rw (found f q, eq-eqb tag 2 t, h, first-two s (omega arith)); rest = rw (found f q, h); within = omega arith }
+
+  pub longer : tag ≡ 2 → (n ≡ 1 → ⊥) → (n ≡ 2 → ⊥) → IntegerRead s integer.Other e
+  longer t h k =
+      let w : n + 2 ≤ length s = ends f q in
+      let l : length (take n (drop 2 s)) ≡ n = length-take-le n (drop 2 s) (omega (arith, length-drop 2 s)) in
+      no-integer (rw (found f q, eq-eqb tag 2 t) (sym (neither (take n (drop 2 s)) (λ (p : length (take n (drop 2 s)) ≡ 1). h (sym l ∙ p)) (λ (p : length (take n (drop 2 s)) ≡ 2). k (sym l ∙ p)))))
+
+  pub object-whole : tag ≡ 6 → (n ≡ 0 → ⊥) → ObjectRead s (object.Whole n) e
+  object-whole t h =
+      let w : n + 2 ≤ length s = ends f q in
+      let l : length (take n (drop 2 s)) ≡ n = length-take-le n (drop 2 s) (omega (arith, length-drop 2 s)) in
+      record { is = rw (found f q, eq-eqb tag 6 t, le-leb 1 (length (take n (drop 2 s))) (omega (arith, h))); rest = rw (found f q); within = w }
+
+  pub no-contents : tag ≡ 6 → n ≡ 0 → ObjectRead s object.Other e
+  no-contents t h = no-object (rw (found f q, h, eq-eqb tag 6 t))
+
+-- ---- what a reader said, in the parts that the code passes on
+module _ {s : List ℕ} {r : Integer} {e : Element} (f : IntegerRead s r e) where
+  pub integer-is : {o : IntegerOctets} {n : ℕ} → r ≡ integer.Whole o n → integerIn e ≡ some o
+  integer-is q = sym (f .is) ∙ rw q
+
+  pub integer-rest : {o : IntegerOctets} {n : ℕ} → r ≡ integer.Whole o n → after e ≡ take (length s - n) (drop n s)
+  integer-rest {o} {n} q = rw q at (sym (f .rest)) ∙ sym (rest n s)
+
+  pub integer-ends : {o : IntegerOctets} {n : ℕ} → r ≡ integer.Whole o n → n ≤ length s
+  integer-ends q = rw q at (f .within)
+
+  pub integer-none : r ≡ integer.Other → integerIn e ≡ none
+  integer-none q = sym (f .is) ∙ rw q
+
+module _ {s : List ℕ} {r : Object} {e : Element} (f : ObjectRead s r e) where
+  pub object-is : {n : ℕ} → r ≡ object.Whole n → objectIn e ≡ some (take (n + 2 - 2) (drop 2 s))
+  object-is q = sym (f .is) ∙ rw (q, add-sub-cancel)
+
+  pub object-rest : {n : ℕ} → r ≡ object.Whole n → after e ≡ take (length s - (n + 2)) (drop (n + 2) s)
+  object-rest {n} q = rw q at (sym (f .rest)) ∙ sym (rest (n + 2) s)
+
+  pub object-ends : {n : ℕ} → r ≡ object.Whole n → n + 2 ≤ length s
+  object-ends q = rw q at (f .within)
+
+  pub object-none : r ≡ object.Other → objectIn e ≡ none
+  object-none q = sym (f .is) ∙ rw q
+
+-- ---- object identifiers
+and-false : (b : Bool) → false ≡ (b && false)
+and-false true = refl
+and-false false = refl
+
+other-length : (s t : List ℕ) → (length s ≡ length t → ⊥) → false ≡ sameOctets s t
+other-length [] [] h = absurd (h refl)
+other-length [] (y ∷ t) h = refl
+other-length (x ∷ s) [] h = refl
+other-length (x ∷ s) (y ∷ t) h = rw (← other-length s t (λ (e : length s ≡ length t). h (ap suc e))) (and-false (eqb x y))
+
+pub not-six : (s : List ℕ) (n : ℕ) → (length s ≡ 6 → ⊥) → false ≡ sameOctets s (ectObject n)
+not-six s n h = other-length s (ectObject n) h
+
+regroup : (a b d e f g : Bool) → (((((a && b) && d) && e) && f) && g) ≡ (a && (b && (d && (e && (f && (g && true))))))
+regroup false b d e f g = refl
+regroup true false d e f g = refl
+regroup true true false e f g = refl
+regroup true true true false f g = refl
+regroup true true true true false g = refl
+regroup true true true true true false = refl
+regroup true true true true true true = refl
+
+pub six : (s : List ℕ) (n : ℕ) → length s ≡ 6
+    → (((((eqb (getD s 0 0) 0x04 && eqb (getD s 1 0) 0x00) && eqb (getD s 2 0) 0x82) && eqb (getD s 3 0) 0x71) && eqb (getD s 4 0) 0x01) && eqb (getD s 5 0) n) ≡ sameOctets s (ectObject n)
+six [] n h = absurd (omega arith)
+six (a ∷ []) n h = absurd (omega arith)
+six (a ∷ b ∷ []) n h = absurd (omega arith)
+six (a ∷ b ∷ d ∷ []) n h = absurd (omega arith)
+six (a ∷ b ∷ d ∷ e ∷ []) n h = absurd (omega arith)
+six (a ∷ b ∷ d ∷ e ∷ f ∷ []) n h = absurd (omega arith)
+six (a ∷ b ∷ d ∷ e ∷ f ∷ g ∷ []) n h = regroup (eqb a 0x04) (eqb b 0x00) (eqb d 0x82) (eqb e 0x71) (eqb f 0x01) (eqb g n)
+six (a ∷ b ∷ d ∷ e ∷ f ∷ g ∷ i ∷ s) n h = absurd (omega arith)
+
+-- ---- the tag and the length
+pub no-length : (s : List ℕ) → length s ≡ 0 → Rejected (Null 2) ≡ framedReading s
+no-length [] h = refl
+no-length (n ∷ s) h = absurd (omega arith)
+
+pub framed : (s : List ℕ) → (length s ≡ 0 → ⊥)
+    → framedReading s ≡ cond (eqb (getD s 0 0) (length s - 1) && wholeElements 4 (drop 1 s)) (invokeReading (drop 1 s)) (Rejected (Null 2))
+framed [] h = absurd (h refl)
+framed (n ∷ s) h =
+    let e : suc (length s) - 1 ≡ length s = omega arith in
+    rw e
+
+pub no-tag : (s : List ℕ) → length s ≡ 0 → Rejected (Null 0) ≡ reading s
+unfolding reading
+no-tag [] h = refl
+no-tag (t ∷ s) h = absurd (omega arith)
+
+pub tagged : (s : List ℕ) → (length s ≡ 0 → ⊥)
+    → reading s ≡ cond (leb 0xA2 (getD s 0 0) && leb (getD s 0 0) 0xA4) Ignored (cond (eqb (getD s 0 0) 0xA1) (framedReading (drop 1 s)) (Rejected (Null 0)))
+unfolding reading
+tagged [] h = absurd (h refl)
+tagged (t ∷ s) h = refl
+
+pub above : (k : ℕ) → 0xA4 < k → eqb k 0xA1 ≡ false
+above k h = ne-eqb k 0xA1 (λ (e : k ≡ 0xA1). omega arith)
