@@ -10,17 +10,15 @@ use Rattle.octets.specs.declared.LinkId.{LinkId}
 use Rattle.octets.specs.Numbers.{sameLinkId, nextLinkId}
 use Rattle.octets.specs.Lists.{any, pick, placeFrom}
 use Rattle.octets.proofs.Lists.{testOpt, any-ext}
-use Rattle.octets.proofs.Places.{place-some, pickOpt, any-pick, pick-pick, pick-ext}
-use Rattle.board.specs.declared.Standing.{Standing}
-use Rattle.board.specs.declared.Standing.the-variants.{Empty, Served, Joined}
+use Rattle.octets.proofs.Places.{pickOpt, any-pick, pick-pick, pick-ext}
 use Rattle.board.specs.declared.Row.{Row}
 use Rattle.board.specs.declared.Found.the-variants.{At, Nothing}
 use Rattle.board.specs.declared.finding.Key.the-variants as key
-use Rattle.board.specs.Entries.{Connection, WithUser, WithPartner, Entry, Party, rowEntry, taken, partyOf, calls, linkIdIn, linkIdOf, isLinkId, hasLinkId}
+use Rattle.board.specs.Entries.{Connection, WithUser, WithPartner, Entry, Party, taken, partyOf, calls, linkIdIn, linkIdOf, isLinkId, hasLinkId}
 use Rattle.board.specs.Lookup.{foundAt}
 use Rattle.board.specs.Keys.{matchesKey}
 use Rattle.board.specs.LinkIds.{liveLinkIds, unlessLive, freeLinkId}
-use Rattle.board.proofs.Searches.{found-at, key-nowhere, linkId-test}
+use Rattle.board.proofs.Searches.{key-nowhere, key-somewhere, any-linkId}
 
 is-linkId : (z : ℤ) (o : Option ℤ) → testOpt (sameLinkId z) o ≡ isLinkId z o
 is-linkId z none = refl
@@ -31,8 +29,7 @@ pub live-rows : (l : LinkId) (rows : List Row) → any (sameLinkId (l .0)) (live
 live-rows l rows =
     any-pick (sameLinkId (l .0)) (λ (e : Entry). linkIdOf (e .connection)) (taken rows)
     ∙ any-ext (λ (e : Entry). testOpt (sameLinkId (l .0)) (linkIdOf (e .connection))) (hasLinkId (l .0)) (taken rows) (λ e. is-linkId (l .0) (linkIdOf (e .connection)))
-    ∙ any-pick (hasLinkId (l .0)) rowEntry rows
-    ∙ any-ext (λ (row : Row). testOpt (hasLinkId (l .0)) (rowEntry row)) (matchesKey (key.LinkId l)) rows (linkId-test l)
+    ∙ any-linkId l rows
 
 -- the LinkIds of the calls are those that are live
 pub live-calls : (rows : List Row) → pick (λ (p : Party). linkIdIn (p .call .link)) (calls (taken rows)) ≡ liveLinkIds rows
@@ -60,7 +57,7 @@ module _ (l : LinkId) (rows : List Row) (n k : ℕ) (h : k < n) where
   free-next i e =
       let s : n - k ≡ suc (n - (k + 1)) = omega arith in
       let v : any (sameLinkId (l .0)) (liveLinkIds rows) ≡ true =
-      live-rows l rows ∙ place-some (matchesKey (key.LinkId l)) rows i (found-at (placeFrom (matchesKey (key.LinkId l)) 0 rows) i e) in
+      live-rows l rows ∙ key-somewhere (key.LinkId l) rows i e in
       sym
       (ap (λ (m : ℕ). freeLinkId m (l .0) (liveLinkIds rows)) s
       ∙ ap (λ (b : Bool). unlessLive b (l .0) (freeLinkId (n - (k + 1)) (nextLinkId (l .0)) (liveLinkIds rows))) v)

@@ -1,6 +1,6 @@
 -- The row that a search finds, against the definitions: the entry or the party that they look up is that of the row found, and the lowest empty
 -- row is the one that Open stores to.
-use Prim.Native.Nat.{ℕ, zero, suc, _<_, zero-le, suc-le-suc}
+use Prim.Native.Nat.{ℕ, zero, suc, zero-le, suc-le-suc}
 use native.Mathlib.Nat.{le-of-suc-le-suc, not-suc-le-zero}
 use native.Mathlib.Omega.{arith}
 use mathlib.Core.Path.{_≡_, refl, sym, ap, _∙_}
@@ -9,26 +9,22 @@ use mathlib.Core.List.{List, [], _∷_}
 use mathlib.Core.Option.{Option, none, some}
 use lib.Dec.{eqb}
 use lib.IntN.{ℤ}
-use lib.ListN.{length, getD, set}
+use lib.ListN.{getD, set}
 use Rattle.octets.specs.declared.CallReference.{CallReference}
 use Rattle.octets.specs.declared.LinkId.{LinkId}
-use Rattle.octets.specs.Numbers.{sameLinkId}
 use Rattle.octets.specs.Lists.{any, find, pick, placeFrom}
 use Rattle.octets.proofs.Lists.{testOpt, is-not, any-ext}
 use Rattle.octets.proofs.Places.{Lowest, place-lowest, place-none, place-some, none-place, place-ext, pickAt, pickOpt, find-pick, any-pick, pick-pick}
-use Rattle.board.specs.declared.OptionalLinkId.{OptionalLinkId}
-use Rattle.board.specs.declared.OptionalLinkId.the-variants.{Absent, Present}
-use Rattle.board.specs.declared.Call.{Call}
 use Rattle.board.specs.declared.Standing.{Standing}
 use Rattle.board.specs.declared.Standing.the-variants.{Empty, Served, Joined}
 use Rattle.board.specs.declared.Row.{Row}
-use Rattle.board.specs.declared.Found.{Found}
 use Rattle.board.specs.declared.Found.the-variants.{At, Nothing}
 use Rattle.board.specs.declared.finding.Key.{Key}
 use Rattle.board.specs.declared.finding.Key.the-variants as key
-use Rattle.board.specs.Entries.{Entry, Party, entryOf, rowEntry, taken, occupied, partyOf, calls, hasLeg, hasReference, linkIdIn, linkIdOf, isLinkId, hasLinkId}
-use Rattle.board.specs.Lookup.{hasCallOf, isCallOf, foundAt}
-use Rattle.board.specs.Keys.{hasRowLeg, hasRowLinkId, standingLinkId, isEmpty, matchesKey}
+use Rattle.board.specs.Entries.{Entry, Party, entryOf, rowEntry, taken, occupied, partyOf, calls, hasLeg, hasReference, linkIdIn, isLinkId, hasLinkId}
+use Rattle.board.specs.Lookup.{isCallOf, foundAt}
+use Rattle.board.specs.Keys.{linkOf, isEmpty, matchesKey}
+use Rattle.board.specs.Making.{emptyRow}
 use Rattle.board.specs.Changes.{enter, enterAt, full}
 
 -- ---- the answer of a search
@@ -47,6 +43,9 @@ key-lowest k rows d i e = place-lowest (matchesKey k) d rows i (found-at (placeF
 
 pub key-nowhere : (k : Key) (rows : List Row) → foundAt (placeFrom (matchesKey k) 0 rows) ≡ Nothing → any (matchesKey k) rows ≡ false
 key-nowhere k rows e = place-none (matchesKey k) rows (found-nothing (placeFrom (matchesKey k) 0 rows) e)
+
+pub key-somewhere : (k : Key) (rows : List Row) (i : ℕ) → foundAt (placeFrom (matchesKey k) 0 rows) ≡ At i → any (matchesKey k) rows ≡ true
+key-somewhere k rows i e = place-some (matchesKey k) rows i (found-at (placeFrom (matchesKey k) 0 rows) i e)
 
 -- ---- the entry that the definitions look up is that of the row found
 
@@ -69,7 +68,7 @@ reference-test r row = go (row .standing)
 pub linkId-test : (l : LinkId) (row : Row) → testOpt (hasLinkId (l .0)) (rowEntry row) ≡ matchesKey (key.LinkId l) row
 linkId-test l row = go (row .standing)
   where
-    go : (s : Standing) → testOpt (hasLinkId (l .0)) (entryOf (row .leg) s) ≡ isLinkId (l .0) (standingLinkId s)
+    go : (s : Standing) → testOpt (hasLinkId (l .0)) (entryOf (row .leg) s) ≡ isLinkId (l .0) (linkIdIn (linkOf s))
     go Empty = refl
     go (Served c) = refl
     go (Joined p a) = refl
@@ -88,6 +87,29 @@ entry-by-reference r rows d = entry-found (hasReference (r .0)) (matchesKey (key
 pub entry-by-linkId : (l : LinkId) (rows : List Row) (d : Row) →
     find (hasLinkId (l .0)) (taken rows) ≡ pickAt rowEntry d rows (placeFrom (matchesKey (key.LinkId l)) 0 rows)
 entry-by-linkId l rows d = entry-found (hasLinkId (l .0)) (matchesKey (key.LinkId l)) rows d (linkId-test l)
+
+-- the same, by the answer of the search
+
+pub leg-at : (n : ℕ) (rows : List Row) (d : Row) (i : ℕ) → foundAt (placeFrom (matchesKey (key.Leg n)) 0 rows) ≡ At i →
+    find (hasLeg n) (taken rows) ≡ rowEntry (getD rows i d)
+leg-at n rows d i e = entry-by-leg n rows d ∙ ap (pickAt rowEntry d rows) (found-at (placeFrom (matchesKey (key.Leg n)) 0 rows) i e)
+
+pub leg-nowhere : (n : ℕ) (rows : List Row) → foundAt (placeFrom (matchesKey (key.Leg n)) 0 rows) ≡ Nothing → find (hasLeg n) (taken rows) ≡ none
+leg-nowhere n rows e = entry-by-leg n rows emptyRow ∙ ap (pickAt rowEntry emptyRow rows) (found-nothing (placeFrom (matchesKey (key.Leg n)) 0 rows) e)
+
+-- ---- some entry has a leg, a reference or a LinkId where some row has it
+
+any-entry : (q : Entry → Bool) (p : Row → Bool) (rows : List Row) → ((row : Row) → testOpt q (rowEntry row) ≡ p row) → any q (taken rows) ≡ any p rows
+any-entry q p rows f = any-pick q rowEntry rows ∙ any-ext (λ (row : Row). testOpt q (rowEntry row)) p rows f
+
+pub any-leg : (n : ℕ) (rows : List Row) → any (hasLeg n) (taken rows) ≡ any (matchesKey (key.Leg n)) rows
+any-leg n rows = any-entry (hasLeg n) (matchesKey (key.Leg n)) rows (leg-test n)
+
+pub any-reference : (r : CallReference) (rows : List Row) → any (hasReference (r .0)) (taken rows) ≡ any (matchesKey (key.Reference r)) rows
+any-reference r rows = any-entry (hasReference (r .0)) (matchesKey (key.Reference r)) rows (reference-test r)
+
+pub any-linkId : (l : LinkId) (rows : List Row) → any (hasLinkId (l .0)) (taken rows) ≡ any (matchesKey (key.LinkId l)) rows
+any-linkId l rows = any-entry (hasLinkId (l .0)) (matchesKey (key.LinkId l)) rows (linkId-test l)
 
 -- ---- the party that the definitions look up is that of the row found
 
@@ -120,7 +142,7 @@ party-reference-test r row = go (row .standing)
 party-linkId-test : (l : LinkId) (row : Row) → testOpt (hasPartyLinkId (l .0)) (rowParty row) ≡ matchesKey (key.LinkId l) row
 party-linkId-test l row = go (row .standing)
   where
-    go : (s : Standing) → testOpt (hasPartyLinkId (l .0)) (pickOpt (λ (e : Entry). partyOf (e .leg) (e .connection)) (entryOf (row .leg) s)) ≡ isLinkId (l .0) (standingLinkId s)
+    go : (s : Standing) → testOpt (hasPartyLinkId (l .0)) (pickOpt (λ (e : Entry). partyOf (e .leg) (e .connection)) (entryOf (row .leg) s)) ≡ isLinkId (l .0) (linkIdIn (linkOf s))
     go Empty = refl
     go (Served c) = refl
     go (Joined p a) = refl
@@ -132,6 +154,26 @@ party-by-reference r rows d = party-found (hasPartyReference (r .0)) (matchesKey
 pub party-by-linkId : (l : LinkId) (rows : List Row) (d : Row) →
     find (hasPartyLinkId (l .0)) (calls (taken rows)) ≡ pickAt rowParty d rows (placeFrom (matchesKey (key.LinkId l)) 0 rows)
 party-by-linkId l rows d = party-found (hasPartyLinkId (l .0)) (matchesKey (key.LinkId l)) rows d (party-linkId-test l)
+
+-- the same, by the answer of the search
+
+pub reference-at : (r : CallReference) (rows : List Row) (d : Row) (i : ℕ) → foundAt (placeFrom (matchesKey (key.Reference r)) 0 rows) ≡ At i →
+    find (hasPartyReference (r .0)) (calls (taken rows)) ≡ rowParty (getD rows i d)
+reference-at r rows d i e = party-by-reference r rows d ∙ ap (pickAt rowParty d rows) (found-at (placeFrom (matchesKey (key.Reference r)) 0 rows) i e)
+
+pub reference-nowhere : (r : CallReference) (rows : List Row) → foundAt (placeFrom (matchesKey (key.Reference r)) 0 rows) ≡ Nothing →
+    find (hasPartyReference (r .0)) (calls (taken rows)) ≡ none
+reference-nowhere r rows e =
+    party-by-reference r rows emptyRow ∙ ap (pickAt rowParty emptyRow rows) (found-nothing (placeFrom (matchesKey (key.Reference r)) 0 rows) e)
+
+pub linkId-at : (l : LinkId) (rows : List Row) (d : Row) (i : ℕ) → foundAt (placeFrom (matchesKey (key.LinkId l)) 0 rows) ≡ At i →
+    find (hasPartyLinkId (l .0)) (calls (taken rows)) ≡ rowParty (getD rows i d)
+linkId-at l rows d i e = party-by-linkId l rows d ∙ ap (pickAt rowParty d rows) (found-at (placeFrom (matchesKey (key.LinkId l)) 0 rows) i e)
+
+pub linkId-nowhere : (l : LinkId) (rows : List Row) → foundAt (placeFrom (matchesKey (key.LinkId l)) 0 rows) ≡ Nothing →
+    find (hasPartyLinkId (l .0)) (calls (taken rows)) ≡ none
+linkId-nowhere l rows e =
+    party-by-linkId l rows emptyRow ∙ ap (pickAt rowParty emptyRow rows) (found-nothing (placeFrom (matchesKey (key.LinkId l)) 0 rows) e)
 
 -- ---- Open: the lowest empty row is stored to
 

@@ -9,7 +9,6 @@ use Rattle.board.specs.declared.Call.{Call}
 use Rattle.board.specs.declared.Standing.{Standing}
 use Rattle.board.specs.declared.Standing.the-variants.{Empty, Served, Joined}
 use Rattle.board.specs.declared.Row.{Row}
-use Rattle.board.specs.declared.changing.Named.{Named}
 use Rattle.board.specs.declared.changing.Named.the-variants.{This, Other}
 use Rattle.board.specs.Named.{namedCall}
 use Rattle.board.specs.Changes.{mapStanding, changedCall}

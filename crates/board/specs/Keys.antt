@@ -1,13 +1,12 @@
 -- What a row is found by (document 01, "The board", "Event records" and "Serving it"): the events name a call by its reference, a far party by its
 -- leg and a call by its LinkId, and Open takes an empty row.
 use Prim.Native.Nat.{ℕ}
-use mathlib.Core.Bool.{Bool, true, false, _&&_, not}
-use mathlib.Core.Option.{Option, none, some}
+use mathlib.Core.Bool.{Bool, _&&_, not}
 use lib.Dec.{eqb}
 use lib.IntN.{ℤ}
 use Rattle.octets.specs.declared.LinkId.{LinkId}
 use Rattle.board.specs.declared.OptionalLinkId.{OptionalLinkId}
-use Rattle.board.specs.declared.Call.{Call}
+use Rattle.board.specs.declared.OptionalLinkId.the-variants.{Absent}
 use Rattle.board.specs.declared.Standing.{Standing}
 use Rattle.board.specs.declared.Standing.the-variants.{Empty, Served, Joined}
 use Rattle.board.specs.declared.Row.{Row}
@@ -21,13 +20,13 @@ abbrev pub hasRowLeg : ℕ → Row → Bool
 hasRowLeg n row = occupied (row .standing) && eqb n (row .leg)
 
 -- "A LinkId lives until its call is released or transferred": the LinkId of a row's call
-abbrev pub standingLinkId : Standing → Option ℤ
-standingLinkId Empty = none
-standingLinkId (Served c) = linkIdIn (c .link)
-standingLinkId (Joined p a) = none
+abbrev pub linkOf : Standing → OptionalLinkId
+linkOf Empty = Absent
+linkOf (Served c) = c .link
+linkOf (Joined p a) = Absent
 
 abbrev pub hasRowLinkId : ℤ → Row → Bool
-hasRowLinkId z row = isLinkId z (standingLinkId (row .standing))
+hasRowLinkId z row = isLinkId z (linkIdIn (linkOf (row .standing)))
 
 -- "Open takes the lowest empty row"
 abbrev pub isEmpty : Row → Bool

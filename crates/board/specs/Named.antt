@@ -1,9 +1,8 @@
 -- The call that a change names (document 01, "Event records": "Progress writes the call state, Hold the auxiliary state, of the call with that
 -- reference").
 use Prim.Native.Nat.{ℕ}
-use mathlib.Core.Bool.{Bool, true, false, cond}
+use mathlib.Core.Bool.{cond}
 use lib.Dec.{eqb}
-use Rattle.board.specs.declared.Call.{Call}
 use Rattle.board.specs.declared.Standing.{Standing}
 use Rattle.board.specs.declared.Standing.the-variants.{Empty, Served, Joined}
 use Rattle.board.specs.declared.changing.Named.{Named}

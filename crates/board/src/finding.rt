@@ -4,10 +4,9 @@ ghost use Rattle.octets.specs.Lists.{placeFrom};
 ghost use Rattle.octets.specs.Numbers.{sameLinkId, nextLinkId};
 ghost use Rattle.board.specs.Entries.{occupied, linkIdIn, isLinkId};
 ghost use Rattle.board.specs.Lookup.{isCallOf, foundAt, lookup as lookupRows};
-ghost use Rattle.board.specs.Keys.{standingLinkId, matchesKey};
+ghost use Rattle.board.specs.Keys.{linkOf, matchesKey};
 ghost use Rattle.board.specs.LinkIds.{liveLinkIds, freeLinkId, optionalLinkId};
 use crate::Board;
-use crate::Call;
 use crate::Found;
 use crate::OptionalLinkId;
 use crate::Row;
@@ -43,6 +42,20 @@ fn is_call_of(standing: Standing, reference: CallReference) -> bool
     }
 }
 
+// The LinkId of the call, if there is a call and it has one.
+fn link_of(standing: Standing) -> OptionalLinkId
+    ensures { λ r. ⌜ r ≡ linkOf standing ⌝ }
+{
+    match standing {
+        Standing::Empty => OptionalLinkId::Absent,
+        Standing::Served(call) => {
+            let link = call.link;
+            link
+        }
+        Standing::Joined { .. } => OptionalLinkId::Absent,
+    }
+}
+
 fn same_link_id(a: LinkId, b: LinkId) -> bool
     ensures { λ r. ⌜ r ≡ sameLinkId (a .0) (b .0) ⌝ }
 {
@@ -58,19 +71,6 @@ fn is_link_id(link: OptionalLinkId, id: LinkId) -> bool
     }
 }
 
-fn has_link_id(standing: Standing, id: LinkId) -> bool
-    ensures { λ r. ⌜ r ≡ isLinkId (id .0) (standingLinkId standing) ⌝ }
-{
-    match standing {
-        Standing::Empty => false,
-        Standing::Served(call) => {
-            let link = call.link;
-            is_link_id(link, id)
-        }
-        Standing::Joined { .. } => false,
-    }
-}
-
 fn matches(row: Row, key: Key) -> bool
     ensures { λ r. ⌜ r ≡ matchesKey key row ⌝ }
 {
@@ -78,7 +78,7 @@ fn matches(row: Row, key: Key) -> bool
     match key {
         Key::Reference(reference) => is_call_of(standing, reference),
         Key::Leg(leg) => is_occupied(standing) & (leg == row.leg),
-        Key::LinkId(id) => has_link_id(standing, id),
+        Key::LinkId(id) => is_link_id(link_of(standing), id),
         Key::Empty => !is_occupied(standing),
     }
 }
@@ -113,11 +113,11 @@ fn next_link_id(id: LinkId) -> LinkId
     }
 }
 
-// The first LinkId that is not live, from the candidate upward. Of 16 values one is free unless 16 are live.
-pub fn free_link_id(board: Board) -> OptionalLinkId
-    ensures { λ r. ⌜ r ≡ optionalLinkId (freeLinkId 16 (board .candidate .0) (liveLinkIds (board .rows))) ⌝ }
+// The first LinkId that is not live, from `first` upward. Of 16 values one is free unless 16 are live.
+fn free_from(board: Board, first: LinkId) -> OptionalLinkId
+    ensures { λ r. ⌜ r ≡ optionalLinkId (freeLinkId 16 (first .0) (liveLinkIds (board .rows))) ⌝ }
 {
-    let mut id = board.candidate;
+    let mut id = first;
     for k in 0..16u8 {
         if let Found::Nothing = find(board, Key::LinkId(id)) {
             return OptionalLinkId::Present(id);
@@ -125,4 +125,12 @@ pub fn free_link_id(board: Board) -> OptionalLinkId
         id = next_link_id(id);
     }
     OptionalLinkId::Absent
+}
+
+// The LinkId that the board gives next.
+pub fn free_link_id(board: Board) -> OptionalLinkId
+    ensures { λ r. ⌜ r ≡ optionalLinkId (freeLinkId 16 (board .candidate .0) (liveLinkIds (board .rows))) ⌝ }
+{
+    let candidate = board.candidate;
+    free_from(board, candidate)
 }

@@ -4,14 +4,13 @@ use native.Mathlib.Nat.{le-of-suc-le-suc, not-suc-le-zero}
 use native.Mathlib.Numerals.{add-one}
 use native.Mathlib.Omega.{arith}
 use mathlib.Core.Path.{_≡_, refl, sym, ap, ap₂, _∙_}
-use mathlib.Core.Logic.{_⊎_, inl, inr}
 use mathlib.Core.Bool.{Bool, true, false, _||_}
 use mathlib.Core.List.{List, [], _∷_, _++_, map}
 use mathlib.Core.Option.{Option, none, some, Option·map}
 use lib.ListN.{length, getD, set, take, drop, drop-of-length-le}
 use lib.Seq.{drop-cons}
 use Rattle.octets.specs.Lists.{any, orElse, find, consOpt, pick, placeFrom}
-use Rattle.octets.proofs.Lists.{true-not-false, test, testOpt}
+use Rattle.octets.proofs.Lists.{true-not-false, testOpt}
 
 -- what a callee ensures of its result, and what the branch on it says
 pub told : {A : Type 0} {r v t : A} → r ≡ v → r ≡ t → v ≡ t

@@ -3,7 +3,7 @@ use Rattle.board.proofs.changing.change.Statement.{statement}
 use Rattle.board.proofs.changing.change.Tie as tie
 use Prim.Native.Nat.{_≤_, _-_}
 use native.Mathlib.Omega.{arith}
-use mathlib.Core.Path.{_≡_, refl, ap, _∙_}
+use mathlib.Core.Path.{_≡_, ap, _∙_}
 use lib.ListN.{length}
 use mathlib.Core.List.{List}
 use Rattle.octets.proofs.Places.{changedTo, changed-step, changed-all}

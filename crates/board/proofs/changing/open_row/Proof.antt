@@ -3,9 +3,8 @@ use Rattle.board.proofs.changing.open_row.Statement.{statement}
 use Rattle.board.proofs.changing.open_row.Tie as tie
 use native.Mathlib.Omega.{arith}
 use Prim.Native.Nat.{_<_}
-use mathlib.Core.Path.{_≡_, ap, sym}
+use mathlib.Core.Path.{ap, sym}
 use mathlib.Core.List.{List}
-use lib.ListN.{length}
 use Rattle.octets.proofs.Places.{told, Lowest}
 use Rattle.board.specs.declared.Row.{Row}
 use Rattle.board.specs.declared.finding.Key.the-variants as key
@@ -31,7 +30,7 @@ mul-rows : tie.Need-mul-rows
 mul-rows c = let h = below (c .before .before) in search needs
 
 array-set-from-rows : tie.Need-array-set-from-rows
-array-set-from-rows c = below (c .before .before)
+array-set-from-rows c = let h = below (c .before .before) in omega arith
 
 enum-told : tie.Need-enum-told
 enum-told c = search needs

@@ -1,6 +1,6 @@
 use borrow.Author.Needs.{needs}
-use Rattle.board.proofs.finding.free_link_id.Statement.{statement}
-use Rattle.board.proofs.finding.free_link_id.Tie as tie
+use Rattle.board.proofs.finding.free_from.Statement.{statement}
+use Rattle.board.proofs.finding.free_from.Tie as tie
 use Prim.Native.Nat.{_≤_, _-_, _+_}
 use native.Mathlib.Omega.{arith}
 use mathlib.Core.Path.{_≡_, ap, _∙_}
@@ -10,7 +10,7 @@ use Rattle.board.specs.LinkIds.{liveLinkIds, freeLinkId, optionalLinkId}
 use Rattle.board.proofs.FreeLinkIds.{free-here, free-next, free-end}
 
 abbrev Inv-loop : tie.InvT-loop
-Inv-loop board id₀ k₀ id k = (k ≤ 16) × (freeLinkId (16 - k) (id .0) (liveLinkIds (board .rows)) ≡ freeLinkId 16 (board .candidate .0) (liveLinkIds (board .rows)))
+Inv-loop board id₀ k₀ id k = (k ≤ 16) × (freeLinkId (16 - k) (id .0) (liveLinkIds (board .rows)) ≡ freeLinkId 16 (id₀ .0) (liveLinkIds (board .rows)))
 
 abbrev μ-loop : tie.MeasureT-loop
 μ-loop board id₀ k₀ id k = 16 - k
@@ -25,7 +25,7 @@ enum-told : tie.Need-enum-told Inv-loop μ-loop
 enum-told c = search needs
 
 returns : tie.Need-returns Inv-loop μ-loop
-returns c = ap optionalLinkId (free-here (c .before .before .before .before .loop .id) (c .before .before .before .before .before .before .args .board .rows) 16 (c .before .before .before .before .loop .k) (omega arith) (told (c .before .before .find .ensures) (c .enum-told .given .1)) ∙ c .before .before .before .before .loop .inv .1)
+returns c = ap optionalLinkId (free-here (c .before .before .before .before .loop .id) (c .before .before .before .before .before .args .board .rows) 16 (c .before .before .before .before .loop .k) (omega arith) (told (c .before .before .find .ensures) (c .enum-told .given .1)) ∙ c .before .before .before .before .loop .inv .1)
 
 enum-told-2 : tie.Need-enum-told-2 Inv-loop μ-loop
 enum-told-2 c = search needs
@@ -41,15 +41,15 @@ loop-less c = search needs
 
 loop-again : tie.Need-loop-again Inv-loop μ-loop
 loop-again c =
-    let rows = c .before .before .before .before .before .before .before .args .board .rows in
+    let rows = c .before .before .before .before .before .before .args .board .rows in
     let k = c .before .before .before .before .before .loop .k in
     (search needs, ap (λ (l : LinkId). freeLinkId (16 - (k + 1)) (l .0) (liveLinkIds rows)) (c .next-link-id .ensures) ∙ free-next (c .before .before .before .before .before .loop .id) rows 16 k (omega arith) _ (told (c .before .before .before .find .ensures) (c .before .enum-told2 .given .1)) ∙ c .before .before .before .before .before .loop .inv .1)
 
 returns-2 : tie.Need-returns-2 Inv-loop μ-loop
-returns-2 c = ap optionalLinkId (free-end (c .before .loop .id .0) (liveLinkIds (c .before .before .before .args .board .rows)) 16 (c .before .loop .k) (omega arith) ∙ c .before .loop .inv .1)
+returns-2 c = ap optionalLinkId (free-end (c .before .loop .id .0) (liveLinkIds (c .before .before .args .board .rows)) 16 (c .before .loop .k) (omega arith) ∙ c .before .loop .inv .1)
 
-pub free-link-id-spec : {M : Type 1} → statement M
-free-link-id-spec =
+pub free-from-spec : {M : Type 1} → statement M
+free-from-spec =
     tie.close
     (tie.spec
     Inv-loop
