@@ -15,24 +15,18 @@ use Rattle.board.specs.declared.Call.{Call}
 use Rattle.board.specs.declared.Standing.{Standing}
 use Rattle.board.specs.declared.Standing.the-variants.{Empty, Served, Joined}
 use Rattle.board.specs.declared.Row.{Row}
-
+use Rattle.board.specs.declared.FoundEntry.{FoundEntry}
+use Rattle.board.specs.declared.FoundEntry.the-variants as found-entry
+use Rattle.board.specs.declared.FoundParty.{FoundParty}
+use Rattle.board.specs.declared.FoundParty.the-variants as found-party
 -- "one standing: a call with the served user, .. or joined, carrying the partner's leg and whether this leg still alerts"
-pub data Connection : Type 0 where
-  WithUser : Call → Connection
-  WithPartner : (partner : ℕ) (alerting : Bool) → Connection
-
--- a far party's leg and its connection; the book's term "entry"
-pub record Entry : Type 0 where
-  pub leg : ℕ
-  pub connection : Connection
+pub use Rattle.board.specs.declared.Connection.{Connection}
+pub use Rattle.board.specs.declared.Connection.the-variants.{WithUser, WithPartner}
+pub use Rattle.board.specs.declared.Entry.{Entry}
+pub use Rattle.board.specs.declared.Party.{Party}
 
 abbrev pub entry : ℕ → Connection → Entry
 entry l c = record { leg = l; connection = c }
-
--- a far party with a call: its leg and its call with the served user
-pub record Party : Type 0 where
-  pub leg : ℕ
-  pub call : Call
 
 -- ---- the rows taken, in their order, as entries
 
@@ -112,3 +106,13 @@ isPartner n (WithPartner p a) = eqb n p
 -- the number of live LinkIds
 abbrev pub linkIds : List Entry → ℕ
 linkIds es = length (keep linked es)
+
+-- ---- what a search for an entry or a party answers
+
+abbrev pub foundEntry : Option Entry → FoundEntry
+foundEntry none = found-entry.Nothing
+foundEntry (some e) = found-entry.This e
+
+abbrev pub foundParty : Option Party → FoundParty
+foundParty none = found-party.Nothing
+foundParty (some p) = found-party.This p

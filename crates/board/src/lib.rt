@@ -71,6 +71,36 @@ pub struct Board {
     pub candidate: LinkId,
 }
 
+// What a row that is not empty says of its leg: its call with the served user, or its partner's leg and whether it still alerts.
+pub enum Connection {
+    WithUser(Call),
+    WithPartner { partner: u32, alerting: bool },
+}
+
+// A far party: its leg and its connection. The book's term "entry".
+pub struct Entry {
+    pub leg: u32,
+    pub connection: Connection,
+}
+
+// A far party with a call: its leg and its call with the served user.
+pub struct Party {
+    pub leg: u32,
+    pub call: Call,
+}
+
+// The entry that was looked for.
+pub enum FoundEntry {
+    This(Entry),
+    Nothing,
+}
+
+// The party that was looked for.
+pub enum FoundParty {
+    This(Party),
+    Nothing,
+}
+
 // A change that an accepted event makes to rows that are taken: of the call with a reference its call state,
 // its auxiliary state or its LinkId; two legs joined; a leg's alerting ended; a leg's row emptied, or a pair's.
 pub enum Change {

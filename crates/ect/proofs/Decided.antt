@@ -7,7 +7,11 @@ use mathlib.Core.Option.{Option, some, none}
 use lib.Dec.{leb, eqb}
 use lib.ListN.{length}
 use lib.IntN.{ℤ}
-use Rattle.board.specs.Entries.{Party, isLinkId, Entry, hasLeg, hasReference, calls, Connection, WithUser, WithPartner}
+use Rattle.board.specs.declared.Connection.{Connection}
+use Rattle.board.specs.declared.Connection.the-variants.{WithUser, WithPartner}
+use Rattle.board.specs.declared.Entry.{Entry}
+use Rattle.board.specs.declared.Party.{Party}
+use Rattle.board.specs.Entries.{isLinkId, hasLeg, hasReference, calls}
 use Rattle.board.specs.LinkIds.{freeLinkId}
 use Rattle.board.specs.States.{holdable}
 use Rattle.board.specs.declared.AuxiliaryState.{AuxiliaryState}

@@ -5,7 +5,9 @@ use mathlib.Core.Bool.{Bool, false, true, cond}
 use mathlib.Core.List.{_++_, _∷_, List, []}
 use lib.Dec.{eqb, ltb}
 use lib.ListN.{getD, replicate, length}
-use Rattle.board.specs.Entries.{Party, Connection, WithUser, WithPartner}
+use Rattle.board.specs.declared.Connection.{Connection}
+use Rattle.board.specs.declared.Connection.the-variants.{WithUser, WithPartner}
+use Rattle.board.specs.declared.Party.{Party}
 use Rattle.board.specs.Soundness.{sound}
 use Rattle.board.specs.States.{delivered}
 use Rattle.board.specs.declared.Board.{Board}

@@ -11,7 +11,9 @@ use lib.Dec.{eqb, ltb}
 use lib.ListN.{length}
 use lib.IntN.{ℤ, pos, negsuc}
 use Rattle.board.specs.Changes.{full}
-use Rattle.board.specs.Entries.{Party, Entry, taken, linkIds, calls}
+use Rattle.board.specs.declared.Entry.{Entry}
+use Rattle.board.specs.declared.Party.{Party}
+use Rattle.board.specs.Entries.{taken, linkIds, calls}
 use Rattle.board.specs.LinkIds.{freeLinkId, unlessLive}
 use Rattle.board.specs.Making.{options, fresh, emptyBoard, unmade}
 use Rattle.board.specs.Soundness.{sound, validOptions}

@@ -13,7 +13,11 @@ use lib.IntN.{ℤ}
 use Rattle.board.proofs.Soundness.{Sound, isNumber-same, refs-one, one-leg}
 use Rattle.board.specs.Changes.{withState, withAuxiliary, withLinkId}
 use Rattle.board.specs.Counts.{legs}
-use Rattle.board.specs.Entries.{entry, Connection, calls, Entry, Party, WithUser, partyOf, WithPartner, hasLeg, hasReference, referenceOf, linkIds, linked, linkIdOf, linkIdIn, present, hasLinkId, isLinkId, isNumber, isPartner}
+use Rattle.board.specs.declared.Connection.{Connection}
+use Rattle.board.specs.declared.Connection.the-variants.{WithUser, WithPartner}
+use Rattle.board.specs.declared.Entry.{Entry}
+use Rattle.board.specs.declared.Party.{Party}
+use Rattle.board.specs.Entries.{entry, calls, partyOf, hasLeg, hasReference, referenceOf, linkIds, linked, linkIdOf, linkIdIn, present, hasLinkId, isLinkId, isNumber, isPartner}
 use Rattle.board.specs.LinkIds.{freeLinkId, unlessLive}
 use Rattle.board.specs.Soundness.{answersTo, partnered, joinedBack, validPartner, sameLinkIds, validEntry, sameLegs, sameReferences, sameNumbers, validConnection, sameLinkIdsIn}
 use Rattle.board.specs.States.{validReference, validCall, validDirection, holdable, idle, delivered, sameState, active, outgoing}

@@ -9,7 +9,11 @@ use lib.ListN.{length}
 use lib.IntN.{ℤ}
 use Rattle.board.proofs.Soundness.{Sound, refs-one, lids-one, legs-one}
 use Rattle.board.specs.Changes.{full}
-use Rattle.board.specs.Entries.{Connection, partyOf, isNumber, referenceOf, WithUser, WithPartner, calls, Entry, hasReference, Party, isLinkId, linkIdOf, hasLinkId, hasLeg}
+use Rattle.board.specs.declared.Connection.{Connection}
+use Rattle.board.specs.declared.Connection.the-variants.{WithUser, WithPartner}
+use Rattle.board.specs.declared.Entry.{Entry}
+use Rattle.board.specs.declared.Party.{Party}
+use Rattle.board.specs.Entries.{partyOf, isNumber, referenceOf, calls, hasReference, isLinkId, linkIdOf, hasLinkId, hasLeg}
 use Rattle.board.specs.LinkIds.{freeLinkId, unlessLive}
 use Rattle.board.specs.declared.Options.{Options}
 use Rattle.component.specs.Reading.{reading}

@@ -11,7 +11,11 @@ use lib.ListN.{length}
 use lib.IntN.{ℤ}
 use Rattle.board.proofs.Soundness.{legs-one, Sound, one-leg}
 use Rattle.board.specs.Changes.{withLinkId, enter, withState, withAuxiliary}
-use Rattle.board.specs.Entries.{entry, Entry, WithPartner, WithUser, Connection, isPartner, Party, calls, hasLeg, taken}
+use Rattle.board.specs.declared.Connection.{Connection}
+use Rattle.board.specs.declared.Connection.the-variants.{WithPartner, WithUser}
+use Rattle.board.specs.declared.Entry.{Entry}
+use Rattle.board.specs.declared.Party.{Party}
+use Rattle.board.specs.Entries.{entry, isPartner, calls, hasLeg, taken}
 use Rattle.board.specs.Making.{options}
 use Rattle.board.specs.States.{delivered}
 use Rattle.board.specs.declared.Board.{Board}

@@ -10,7 +10,11 @@ use lib.ListN.{length}
 use lib.IntN.{ℤ}
 use Rattle.board.proofs.Soundness.{Sound, one-leg, sound-perm}
 use Rattle.board.specs.Changes.{withLinkId, withState, withAuxiliary}
-use Rattle.board.specs.Entries.{Entry, hasLeg, isPartner, entry, Connection, WithUser, WithPartner, Party}
+use Rattle.board.specs.declared.Connection.{Connection}
+use Rattle.board.specs.declared.Connection.the-variants.{WithUser, WithPartner}
+use Rattle.board.specs.declared.Entry.{Entry}
+use Rattle.board.specs.declared.Party.{Party}
+use Rattle.board.specs.Entries.{hasLeg, isPartner, entry}
 use Rattle.board.specs.Making.{options}
 use Rattle.board.specs.declared.Board.{Board}
 use Rattle.board.specs.declared.Options.{Options}

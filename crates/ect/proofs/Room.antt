@@ -7,7 +7,10 @@ use mathlib.Core.List.{_++_, _∷_, List, []}
 use mathlib.Core.Option.{Option, none, some}
 use lib.Dec.{eqb, leb, ltb}
 use lib.ListN.{length, length-append, replicate, length-replicate, take}
-use Rattle.board.specs.Entries.{occupied, Party, Connection, WithUser, WithPartner}
+use Rattle.board.specs.declared.Connection.{Connection}
+use Rattle.board.specs.declared.Connection.the-variants.{WithUser, WithPartner}
+use Rattle.board.specs.declared.Party.{Party}
+use Rattle.board.specs.Entries.{occupied}
 use Rattle.board.specs.Making.{options}
 use Rattle.board.specs.Soundness.{validDigits, validStanding, validRow, sound, soundRows, validOptions}
 use Rattle.board.specs.States.{delivered}

@@ -10,7 +10,11 @@ use lib.Arith.{lt→nleb}
 use lib.ListN.{length, length-map}
 use lib.IntN.{ℤ}
 use Rattle.board.specs.Changes.{changedCall, joined, answered, emptiedIf, changedRows, rowAfter, enter, full, enterAt, withLinkId, withState, withAuxiliary, mapStanding}
-use Rattle.board.specs.Entries.{taken, Entry, rowEntry, entryOf, Connection, WithPartner, WithUser, occupied, Party}
+use Rattle.board.specs.declared.Connection.{Connection}
+use Rattle.board.specs.declared.Connection.the-variants.{WithPartner, WithUser}
+use Rattle.board.specs.declared.Entry.{Entry}
+use Rattle.board.specs.declared.Party.{Party}
+use Rattle.board.specs.Entries.{taken, rowEntry, entryOf, occupied}
 use Rattle.board.specs.Making.{emptyRow}
 use Rattle.board.specs.Soundness.{validDigits, validStanding, validRow}
 use Rattle.board.specs.States.{delivered, validReference}

@@ -6,7 +6,8 @@ use mathlib.Core.Bool.{_&&_, false, true, not, Bool, cond}
 use mathlib.Core.List.{_++_, _∷_, List, [], append-assoc}
 use mathlib.Core.Option.{Option, some, none}
 use lib.Dec.{eqb, T, ltb}
-use Rattle.board.specs.Entries.{hasLeg, WithUser}
+use Rattle.board.specs.declared.Connection.the-variants.{WithUser}
+use Rattle.board.specs.Entries.{hasLeg}
 use Rattle.board.specs.Making.{options, fresh}
 use Rattle.board.specs.Soundness.{validOptions, sound}
 use Rattle.board.specs.declared.Board.{Board}

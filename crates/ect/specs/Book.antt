@@ -11,7 +11,11 @@ use Rattle.octets.specs.Numbers.{nextLinkId}
 use Rattle.board.specs.declared.Call.{Call}
 use Rattle.board.specs.declared.Options.{Options}
 use Rattle.board.specs.States.{delivered}
-use Rattle.board.specs.Entries.{Connection, WithUser, WithPartner, Entry, Party, isPartner}
+use Rattle.board.specs.declared.Connection.{Connection}
+use Rattle.board.specs.declared.Connection.the-variants.{WithUser, WithPartner}
+use Rattle.board.specs.declared.Entry.{Entry}
+use Rattle.board.specs.declared.Party.{Party}
+use Rattle.board.specs.Entries.{isPartner}
 use Rattle.board.specs.Soundness.{validOptions}
 use Rattle.board.specs.Making.{options}
 use Rattle.board.specs.Changes.{withState, withAuxiliary, withLinkId}

@@ -18,7 +18,11 @@ use Rattle.board.specs.declared.OptionalLinkId.the-variants.{Absent}
 use Rattle.board.specs.declared.Call.{Call}
 use Rattle.board.specs.declared.Options.{Options}
 use Rattle.board.specs.States.{holdable}
-use Rattle.board.specs.Entries.{Connection, WithUser, WithPartner, Entry, Party, calls, hasLeg, hasReference}
+use Rattle.board.specs.declared.Connection.{Connection}
+use Rattle.board.specs.declared.Connection.the-variants.{WithUser, WithPartner}
+use Rattle.board.specs.declared.Entry.{Entry}
+use Rattle.board.specs.declared.Party.{Party}
+use Rattle.board.specs.Entries.{calls, hasLeg, hasReference}
 use Rattle.ect.specs.declared.Refusal.{Refusal}
 use Rattle.ect.specs.declared.Refusal.the-variants as refusal
 use Rattle.ect.specs.EventRecords.{Request, Malformed, Open, Progress, Hold, Release, Facility, Answer}

@@ -5,7 +5,10 @@ use mathlib.Core.Path.{_≡_}
 use mathlib.Core.Bool.{Bool, true, false}
 use mathlib.Core.List.{List, [], _∷_, _++_, map}
 use Rattle.octets.specs.Lists.{any}
-use Rattle.board.specs.Entries.{Connection, WithUser, WithPartner, Entry, entry, taken, isJoined}
+use Rattle.board.specs.declared.Connection.{Connection}
+use Rattle.board.specs.declared.Connection.the-variants.{WithUser, WithPartner}
+use Rattle.board.specs.declared.Entry.{Entry}
+use Rattle.board.specs.Entries.{entry, taken, isJoined}
 use Rattle.board.specs.Making.{fresh}
 use Rattle.ect.specs.Replies.{OtherFirst}
 use Rattle.ect.specs.Book.{freshBook}

@@ -10,7 +10,11 @@ use lib.ListN.{length}
 use Rattle.octets.specs.Lists.{any, all, keep, distinct}
 use Rattle.board.specs.declared.Call.{Call}
 use Rattle.board.specs.declared.Board.{Board}
-use Rattle.board.specs.Entries.{Connection, WithUser, WithPartner, Entry, Party, taken, hasLeg, isPartner}
+use Rattle.board.specs.declared.Connection.{Connection}
+use Rattle.board.specs.declared.Connection.the-variants.{WithUser, WithPartner}
+use Rattle.board.specs.declared.Entry.{Entry}
+use Rattle.board.specs.declared.Party.{Party}
+use Rattle.board.specs.Entries.{taken, hasLeg, isPartner}
 use Rattle.board.specs.Soundness.{sound, sameLinkIds}
 use Rattle.board.specs.Making.{fresh}
 use Rattle.ect.specs.EventRecords.{request, Request, Malformed, Open, Progress, Hold, Release, Facility, Answer}

@@ -11,7 +11,8 @@ use Rattle.component.specs.declared.Answer.{Answer}
 use Rattle.component.specs.Answers.{answerOctets}
 use Rattle.board.specs.declared.Row.{Row}
 use Rattle.board.specs.States.{delivered}
-use Rattle.board.specs.Entries.{Party, occupied}
+use Rattle.board.specs.declared.Party.{Party}
+use Rattle.board.specs.Entries.{occupied}
 
 -- a number as it is told
 pub record Number : Type 0 where

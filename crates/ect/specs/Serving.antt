@@ -18,7 +18,8 @@ use Rattle.component.specs.declared.Answer.{Answer}
 use Rattle.component.specs.declared.Answer.the-variants as answer
 use Rattle.board.specs.declared.Options.{Options}
 use Rattle.board.specs.declared.Call.{Call}
-use Rattle.board.specs.Entries.{Party, linkIdIn, isLinkId}
+use Rattle.board.specs.declared.Party.{Party}
+use Rattle.board.specs.Entries.{linkIdIn, isLinkId}
 use Rattle.board.specs.LinkIds.{freeLinkId}
 use Rattle.ect.specs.Pairing.{pairs}
 

@@ -11,7 +11,11 @@ use Rattle.board.specs.declared.Row.{Row}
 use Rattle.board.specs.declared.Board.{Board}
 use Rattle.board.specs.declared.Change.{Change}
 use Rattle.board.specs.declared.Change.the-variants as change
-use Rattle.board.specs.Entries.{Connection, WithUser, WithPartner, Entry, Party, taken}
+use Rattle.board.specs.declared.Connection.{Connection}
+use Rattle.board.specs.declared.Connection.the-variants.{WithUser, WithPartner}
+use Rattle.board.specs.declared.Entry.{Entry}
+use Rattle.board.specs.declared.Party.{Party}
+use Rattle.board.specs.Entries.{taken}
 use Rattle.board.specs.Soundness.{sound}
 use Rattle.board.specs.Changes.{changedRows, enter, full}
 use Rattle.ect.specs.declared.Refusal.{Refusal}
