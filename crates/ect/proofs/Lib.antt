@@ -11,3 +11,4 @@ pub mod WholeHistory
 pub mod Room
 pub mod Situations
 pub mod Examples
+pub mod PartyLaws

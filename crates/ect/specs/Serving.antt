@@ -78,9 +78,13 @@ abbrev pub executeExplicitly : Options → Party → IntegerOctets → Option Pa
 executeExplicitly o named i none = Respond (answer.LinkIdNotAssigned i)
 executeExplicitly o named i (some q) = cond (partnerFor o named q) (Transfer named q i) (error i 7)
 
+-- "LinkId not live": no call has it
+abbrev pub hasLinkId : LinkId → Party → Bool
+hasLinkId l q = isLinkId (l .0) (partyLinkId q)
+
 abbrev pub perform : Options → ℤ → List Party → Party → IntegerOctets → Operation → Service
 perform o candidate ps named i EctExecute = execute named i (only (keep (partnerFor o named) ps))
-perform o candidate ps named i (ExplicitEctExecute l) = executeExplicitly o named i (find (λ (q : Party). isLinkId (l .0) (partyLinkId q)) ps)
+perform o candidate ps named i (ExplicitEctExecute l) = executeExplicitly o named i (find (hasLinkId l) ps)
 perform o candidate ps named i EctLinkIdRequest = linkIdRequest candidate (live ps) i (partyLinkId named)
 
 -- "Not subscribed: e = 0, after any Reject above and before the rest."
