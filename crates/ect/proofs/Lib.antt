@@ -12,3 +12,4 @@ pub mod Room
 pub mod Situations
 pub mod Examples
 pub mod PartyLaws
+pub mod PairingLaws

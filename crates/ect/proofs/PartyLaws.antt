@@ -1,15 +1,17 @@
 -- A party or an entry that the rules look up is that of the row found.
 use Prim.Native.Nat.{_<_, ℕ}
 use native.Mathlib.Omega.{arith}
-use mathlib.Core.Path.{_∙_, _≡_, refl, ap, sym}
+use mathlib.Core.Path.{_∙_, refl, ap, sym, _≡_}
 use mathlib.Core.Bool.{Bool}
 use mathlib.Core.List.{[], List}
+use mathlib.Core.Option.{none, Option, some}
 use lib.ListN.{getD, length}
 use Rattle.board.proofs.Searches.{rowParty, found-at, found-nothing, entry-by-leg, key-lowest}
 use Rattle.board.specs.Entries.{partyOf, entryOf, calls, taken, foundParty, foundEntry, rowEntry}
 use Rattle.board.specs.Keys.{matchesKey}
 use Rattle.board.specs.Lookup.{foundAt}
 use Rattle.board.specs.declared.Entry.{Entry}
+use Rattle.board.specs.declared.FoundEntry.the-variants.{This}
 use Rattle.board.specs.declared.Party.{Party}
 use Rattle.board.specs.declared.Row.{Row}
 use Rattle.board.specs.declared.Standing.{Standing}
@@ -23,6 +25,10 @@ use Rattle.board.specs.declared.finding.Key.the-variants as key
 use Rattle.board.specs.declared.finding.Key.the-variants as key
 use Rattle.board.specs.declared.finding.Key.the-variants as key
 use Rattle.board.specs.declared.finding.Key.the-variants as key
+use Rattle.board.specs.declared.finding.Key.the-variants as key
+use Rattle.board.specs.declared.finding.Key.the-variants as key
+use Rattle.board.specs.declared.finding.Key.the-variants as key
+use Rattle.board.specs.declared.finding.Key.the-variants as key
 use Rattle.board.specs.declared.Found.the-variants.{At, Nothing}
 use Rattle.board.specs.declared.FoundParty.the-variants as found-party
 use Rattle.board.specs.declared.FoundEntry.the-variants as found-entry
@@ -31,7 +37,7 @@ use Rattle.board.specs.declared.FoundEntry.the-variants as found-entry
 abbrev pub noRow : Row
 noRow = record { leg = 0; presentation = 0; count = 0; digits = []; standing = Empty }
 
-party-in : (row : Row) → rowParty row ≡ partyIn row
+pub party-in : (row : Row) → rowParty row ≡ partyIn row
 party-in row = go (row .standing)
   where
     go : (s : Standing) → pickOpt (λ (e : Entry). partyOf (e .leg) (e .connection)) (entryOf (row .leg) s) ≡ standingParty (row .leg) s
@@ -56,3 +62,21 @@ module _ (n : ℕ) (rows : List Row) where
 -- the place found is a row
 pub row-below : (k : Key) (rows : List Row) {i : ℕ} → foundAt (placeFrom (matchesKey k) 0 rows) ≡ At i → length rows ≡ 64 → i < 64
 row-below k rows {i} e h = let w = key-lowest k rows noRow i e .within in omega arith
+
+-- ---- the answer of a search, taken apart
+
+pub party-none : (o : Option Party) → foundParty o ≡ found-party.Nothing → o ≡ none
+party-none none e = refl
+party-none (some p) e = let z : _≡_ {A = ℕ} 0 1 = cc in absurd (omega arith)
+
+pub party-some : (o : Option Party) {p : Party} → foundParty o ≡ found-party.This p → o ≡ some p
+party-some none e = let z : _≡_ {A = ℕ} 0 1 = cc in absurd (omega arith)
+party-some (some r) {p} e = let d : r ≡ p = cc in ap {B = Option Party} some d
+
+pub entry-none : (o : Option Entry) → foundEntry o ≡ found-entry.Nothing → o ≡ none
+entry-none none e = refl
+entry-none (some x) e = let z : _≡_ {A = ℕ} 0 1 = cc in absurd (omega arith)
+
+pub entry-some : (o : Option Entry) {x : Entry} → foundEntry o ≡ found-entry.This x → o ≡ some x
+entry-some none e = let z : _≡_ {A = ℕ} 0 1 = cc in absurd (omega arith)
+entry-some (some y) {x} e = let d : y ≡ x = cc in ap {B = Option Entry} some d

@@ -1,10 +1,13 @@
 -- The party of a row (document 01, "The board": "a call with the served user").
 use Prim.Native.Nat.{ℕ}
+use mathlib.Core.Bool.{Bool, true, false}
 use mathlib.Core.Option.{Option, none, some}
 use Rattle.board.specs.declared.Standing.{Standing}
 use Rattle.board.specs.declared.Standing.the-variants.{Empty, Served, Joined}
 use Rattle.board.specs.declared.Row.{Row}
+use Rattle.board.specs.declared.Options.{Options}
 use Rattle.board.specs.declared.Party.{Party}
+use Rattle.ect.specs.Serving.{partnerFor}
 
 abbrev pub standingParty : ℕ → Standing → Option Party
 standingParty leg Empty = none
@@ -13,3 +16,11 @@ standingParty leg (Joined p a) = none
 
 abbrev pub partyIn : Row → Option Party
 partyIn r = standingParty (r .leg) (r .standing)
+
+abbrev pub passes : (Party → Bool) → Option Party → Bool
+passes q none = false
+passes q (some p) = q p
+
+-- "other served call pairs with the named one": the row has such a call
+abbrev pub hasPartner : Options → Party → Row → Bool
+hasPartner o named row = passes (partnerFor o named) (partyIn row)

@@ -1,5 +1,6 @@
 // The network side of Explicit Call Transfer for one access: the six events on a board.
 
+mod pairing;
 mod parties;
 
 // Why an event is refused, in the order of the checks; document 01 numbers them from 1 to 11.

@@ -20,16 +20,13 @@ ghost use Rattle.ect.specs.Serving.{hasLinkId};
 ghost use Rattle.ect.specs.Parties.{partyIn};
 
 // The party of a row with a call.
-fn party_of(row: Row) -> FoundParty
+pub fn party_of(row: Row) -> FoundParty
     ensures { λ r. ⌜ r ≡ foundParty (partyIn row) ⌝ }
 {
     let standing = row.standing;
     match standing {
         Standing::Empty => FoundParty::Nothing,
-        Standing::Served(call) => FoundParty::This(Party {
-            leg: row.leg,
-            call,
-        }),
+        Standing::Served(call) => FoundParty::This(Party { leg: row.leg, call }),
         Standing::Joined { .. } => FoundParty::Nothing,
     }
 }
