@@ -1,6 +1,6 @@
 //! Comparing another player's text with the engine's, octet by octet.
 
-use crate::logs::{Logs, LEAST_EVENTS};
+use crate::logs::{Logs, CYCLES, LEAST_EVENTS};
 use crate::notice::watch;
 use crate::play::{next_record, play, start};
 use crate::program::{Feed, Program};
@@ -10,8 +10,8 @@ use crate::tally::Tally;
 const TRANSFER: usize = 2 * 92;
 const DROPS: usize = 2 * 36;
 const DROP: usize = 2 * 3;
-/// So many of the first steered logs are fed in small parts too.
-const FED_IN_PARTS: u64 = 12;
+/// So many logs, those after the long ones, are fed in small parts too.
+const FED_IN_PARTS: usize = 12;
 
 /// The first line that differs: its number from 1, what was expected, what came.
 #[derive(Debug, PartialEq, Eq)]
@@ -70,13 +70,13 @@ pub fn against(path: &str, seed: u64) -> Result<Tally, String> {
     let program = Program::new(path, &[]);
     let mut tally = Tally::default();
     let mut expected = Vec::new();
-    for log in Logs::new(seed) {
+    for (number, log) in Logs::new(seed).enumerate() {
         watch(&log, &mut tally).map_err(|fault| format!("{fault}\nlog {}", hex(&log)))?;
         expected.clear();
         play(&log, &mut expected);
         same(&program, &log, Feed::Whole, &expected)?;
-        if (2..2 + FED_IN_PARTS).contains(&tally.logs) {
-            let size = if tally.logs % 3 == 0 { 7 } else { 1 };
+        if (CYCLES..CYCLES + FED_IN_PARTS).contains(&number) {
+            let size = if number % 3 == 0 { 7 } else { 1 };
             same(&program, &log, Feed::Parts(size), &expected)?;
         }
     }

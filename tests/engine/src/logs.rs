@@ -8,7 +8,7 @@ use crate::script::Script;
 
 pub const LOGS: usize = 20_000;
 /// So many of them go once round all LinkIds.
-const CYCLES: usize = 2;
+pub const CYCLES: usize = 2;
 pub const LEAST_EVENTS: u64 = 1_000_000;
 pub const DEFAULT_SEED: u64 = 0x0369_0001;
 
