@@ -105,7 +105,10 @@ pub fn event(board: &mut Board, record: &[u8], buffer: &mut [u8]) -> Answer {
 
 fn try_event(board: &mut Board, record: &[u8], buffer: &mut [u8]) -> Result<usize, u8> {
     let buffer = buffer.first_chunk_mut::<BUFFER>().ok_or(1)?;
-    let index = Index::of(board).ok_or(2)?;
+    let mut index = Index::new();
+    if !index.fill(board) {
+        return Err(2);
+    }
     let mut replies = Replies::new(buffer);
     match Event::read(record)? {
         Event::Open { reference, leg, direction, presentation, number } => {

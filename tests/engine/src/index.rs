@@ -35,12 +35,15 @@ fn slot_of(key: u32) -> u8 {
 }
 
 impl Index {
-    /// The index of a sound board; none if the board is not sound.
+    pub fn new() -> Index {
+        Index { legs: [0; 256], references: [0; 256], taken: 0, live: 0 }
+    }
+
+    /// Fills a new index; false if the board is not sound. It is filled in place, since
+    /// moving half a kilobyte at each event would cost as much as a few rows.
     #[inline]
-    pub fn of(board: &Board) -> Option<Index> {
-        let mut index = Index { legs: [0; 256], references: [0; 256], taken: 0, live: 0 };
-        let joined = index.gather(board)?;
-        index.partners_agree(&board.rows, joined).then_some(index)
+    pub fn fill(&mut self, board: &Board) -> bool {
+        self.gather(board).is_some_and(|joined| self.partners_agree(&board.rows, joined))
     }
 
     /// Checks each row by itself and all keys for being distinct; gives the joined rows.
