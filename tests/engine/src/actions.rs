@@ -14,7 +14,19 @@ pub struct Style {
 
 /// The steps, in the order of the weights.
 const STEPS: [fn(&mut Script); 13] = [
-    open, progress, hold, release, answer, link, execute, explicit, pair, odd_component, bad_field, stray, clutter,
+    open,
+    progress,
+    hold,
+    release,
+    answer,
+    link,
+    execute,
+    explicit,
+    pair,
+    odd_component,
+    bad_field,
+    stray,
+    clutter,
 ];
 
 pub fn step(script: &mut Script, style: &Style) {
@@ -68,7 +80,8 @@ fn link(script: &mut Script) {
 }
 
 fn execute(script: &mut Script) {
-    let held = if script.rng.percent(60) { script.pick_call_with(|call| call.aux == Aux::Held) } else { None };
+    let held =
+        if script.rng.percent(60) { script.pick_call_with(|call| call.aux == Aux::Held) } else { None };
     let Some(call) = held.or_else(|| script.pick_call()) else { return open(script) };
     let identifier = script.identifier();
     let component = records::execute(&identifier);
@@ -79,11 +92,12 @@ fn execute(script: &mut Script) {
 fn explicit(script: &mut Script) {
     let Some(call) = script.pick_call() else { return open(script) };
     let live = script.pick_call_with(|call| call.link.is_some()).and_then(|call| call.link);
-    let gone = if script.old_links.is_empty() { None } else { Some(script.rng.below(script.old_links.len())) };
+    let gone =
+        if script.old_links.is_empty() { None } else { Some(script.rng.below(script.old_links.len())) };
     let link = match script.rng.below(10) {
         0 => call.link,
         1 => gone.map(|place| script.old_links[place]),
-        2 => Some(LinkId(script.rng.next() as i16)),
+        2 => Some(LinkId(script.rng.draw() as i16)),
         _ => live,
     };
     explicit_to(script, call.reference, link.unwrap_or(LinkId(-3)));

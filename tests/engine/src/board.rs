@@ -130,12 +130,7 @@ pub struct Row {
 }
 
 impl Row {
-    pub const EMPTY: Row = Row {
-        leg: 0,
-        standing: Standing::Empty,
-        presentation: 0,
-        number: Number::NONE,
-    };
+    pub const EMPTY: Row = Row { leg: 0, standing: Standing::Empty, presentation: 0, number: Number::NONE };
 
     /// What an empty row must hold besides its standing.
     pub fn blank(&self) -> bool {

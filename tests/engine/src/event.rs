@@ -105,7 +105,7 @@ pub fn event(board: &mut Board, record: &[u8], buffer: &mut [u8]) -> Answer {
 
 fn try_event(board: &mut Board, record: &[u8], buffer: &mut [u8]) -> Result<usize, u8> {
     let buffer = buffer.first_chunk_mut::<BUFFER>().ok_or(1)?;
-    let mut index = Index::new();
+    let mut index = Index::empty();
     if !index.fill(board) {
         return Err(2);
     }

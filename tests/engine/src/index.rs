@@ -35,11 +35,11 @@ fn slot_of(key: u32) -> u8 {
 }
 
 impl Index {
-    pub fn new() -> Index {
+    pub fn empty() -> Index {
         Index { legs: [0; 256], references: [0; 256], taken: 0, live: 0 }
     }
 
-    /// Fills a new index; false if the board is not sound. It is filled in place, since
+    /// Fills an empty index; false if the board is not sound. It is filled in place, since
     /// moving half a kilobyte at each event would cost as much as a few rows.
     #[inline]
     pub fn fill(&mut self, board: &Board) -> bool {

@@ -43,7 +43,11 @@ pub fn watch(log: &[u8], tally: &mut Tally) -> Result<(), String> {
         let mut buffer = [0x5A; BUFFER];
         let answer = event(&mut board, record, &mut buffer);
         stands(&before, &board, answer, &buffer).map_err(|fault| format!("event {number}: {fault}"))?;
-        notice(&Moment { before: &before, after: &board, record, returned: answer.returned }, &mut past, tally);
+        notice(
+            &Moment { before: &before, after: &board, record, returned: answer.returned },
+            &mut past,
+            tally,
+        );
         tally.add_if(answer.returned == 4 && rest.len() == 1, Seen::UnknownKindLast);
         rest = after;
     }
@@ -213,7 +217,8 @@ fn accepted(moment: &Moment, past: &mut Past, tally: &mut Tally) {
 }
 
 fn opened(moment: &Moment, reference: Reference, leg: u32, tally: &mut Tally) {
-    let Some(place) = moment.after.rows.iter().position(|row| row.leg == leg && row.standing != Standing::Empty)
+    let Some(place) =
+        moment.after.rows.iter().position(|row| row.leg == leg && row.standing != Standing::Empty)
     else {
         return;
     };

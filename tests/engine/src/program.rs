@@ -25,7 +25,11 @@ impl Program {
         let running = Arc::new(Mutex::new(None));
         let watched = Arc::clone(&running);
         thread::spawn(move || stop_late_runs(&watched));
-        Program { path: path.to_string(), arguments: arguments.iter().map(|text| text.to_string()).collect(), running }
+        Program {
+            path: path.to_string(),
+            arguments: arguments.iter().map(|text| text.to_string()).collect(),
+            running,
+        }
     }
 
     /// Plays a log. Writing and reading go on side by side, so no pipe can fill up for good.

@@ -7,7 +7,7 @@ impl Rng {
         Rng(seed)
     }
 
-    pub fn next(&mut self) -> u64 {
+    pub fn draw(&mut self) -> u64 {
         self.0 = self.0.wrapping_add(0x9E37_79B9_7F4A_7C15);
         let mut z = self.0;
         z = (z ^ (z >> 30)).wrapping_mul(0xBF58_476D_1CE4_E5B9);
@@ -17,7 +17,7 @@ impl Rng {
 
     /// A value below `limit`, which is not 0.
     pub fn below(&mut self, limit: usize) -> usize {
-        (self.next() % limit as u64) as usize
+        (self.draw() % limit as u64) as usize
     }
 
     /// A value from `low` to `high`, both included.
@@ -30,7 +30,7 @@ impl Rng {
     }
 
     pub fn octet(&mut self) -> u8 {
-        self.next() as u8
+        self.draw() as u8
     }
 
     pub fn pick<T: Copy>(&mut self, from: &[T]) -> T {

@@ -26,7 +26,8 @@ pub fn board_sound(board: &Board) -> bool {
 }
 
 pub fn sound(rows: &[Row]) -> bool {
-    let all = |test: &dyn Fn(usize, &Row) -> bool| rows.iter().enumerate().all(|(place, row)| test(place, row));
+    let all =
+        |test: &dyn Fn(usize, &Row) -> bool| rows.iter().enumerate().all(|(place, row)| test(place, row));
     all(&|_, row| fields_sound(row))
         && all(&|place, row| rows[place + 1..].iter().all(|other| apart(row, other)))
         && live(rows) <= MAX_LIVE

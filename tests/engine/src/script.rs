@@ -86,7 +86,7 @@ impl<'a> Script<'a> {
             let leg = match self.rng.below(10) {
                 0 => self.rng.pick(&EDGES),
                 1..=6 => self.rng.below(200) as u32,
-                _ => self.rng.next() as u32,
+                _ => self.rng.draw() as u32,
             };
             if self.board.rows.iter().all(|row| row.leg != leg || row.standing == Standing::Empty) {
                 return leg;
@@ -103,7 +103,7 @@ impl<'a> Script<'a> {
                 0 => self.rng.pick(&EDGES),
                 1 => twin,
                 2..=6 => self.rng.below(200) as u16,
-                _ => self.rng.next() as u16,
+                _ => self.rng.draw() as u16,
             };
             let reference = Reference(value);
             if reference.valid() && self.call(reference).is_none() {
@@ -117,7 +117,7 @@ impl<'a> Script<'a> {
         match self.rng.below(4) {
             0 | 1 => records::short_integer(self.rng.below(256) as i16 - 128),
             2 => records::long_integer(self.rng.below(256) as i16 - 128),
-            _ => records::short_integer(self.rng.next() as i16),
+            _ => records::short_integer(self.rng.draw() as i16),
         }
     }
 

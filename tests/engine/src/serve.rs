@@ -16,7 +16,14 @@ enum Outcome {
 }
 
 /// Serves a component on the call at `place`. `live` counts the live LinkIds.
-pub fn serve(board: &mut Board, place: usize, call: Call, live: usize, component: &[u8], replies: &mut Replies) {
+pub fn serve(
+    board: &mut Board,
+    place: usize,
+    call: Call,
+    live: usize,
+    component: &[u8],
+    replies: &mut Replies,
+) {
     let (identifier, operation) = match read(component) {
         Reading::Nothing => return,
         Reading::Reject { identifier, sort, problem } => {

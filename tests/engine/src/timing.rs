@@ -16,13 +16,18 @@ const LOADS: [(&str, usize); 3] = [("few", 4), ("sixteen", 16), ("sixty-four", 6
 /// Times all loads; `own` is the path of the engine's own program.
 pub fn time(path: &str, own: &str) -> Result<(), String> {
     println!("events per second, best of {ROUNDS} rounds over {EVENTS} events");
-    println!("{:<11} {:>9} {:>12} {:>12} {:>12} {:>7} {:>7}",
-        "load", "mean legs", "program", "engine", "engine pipe", "ratio", "by pipe");
+    println!(
+        "{:<11} {:>9} {:>12} {:>12} {:>12} {:>7} {:>7}",
+        "load", "mean legs", "program", "engine", "engine pipe", "ratio", "by pipe"
+    );
     for (name, legs) in LOADS {
         let (log, mean) = load::log(&mut Rng::new(DEFAULT_SEED), legs, EVENTS);
         let [program, engine, pipe] = rates(path, own, &log)?;
-        println!("{name:<11} {mean:>9.1} {program:>12.0} {engine:>12.0} {pipe:>12.0} {:>7.2} {:>7.2}",
-            program / engine, program / pipe);
+        println!(
+            "{name:<11} {mean:>9.1} {program:>12.0} {engine:>12.0} {pipe:>12.0} {:>7.2} {:>7.2}",
+            program / engine,
+            program / pipe
+        );
     }
     println!("ratio: program to engine from memory; by pipe: program to engine run the same way");
     Ok(())

@@ -3,8 +3,8 @@
 mod common;
 
 use common::{error, Desk, DONE, ID};
-use engine::component::{read, Operation, Reading, EXPLICIT, LINK_REQUEST};
 use engine::board::LinkId;
+use engine::component::{read, Operation, Reading, EXPLICIT, LINK_REQUEST};
 use engine::records::{element, execute, invoke, long_integer, object};
 
 /// The Reply to a component, asked on a single call.
@@ -51,8 +51,16 @@ fn outer_length() {
 #[test]
 fn broken_elements() {
     for further in [
-        &[4u8] as &[u8], &[4, 1], &[0x1F, 0], &[0x3F, 0], &[0xDF, 0], &[4, 0x80], &[4, 0x81, 1, 0],
-        &[0x30, 1, 4], &[0x30, 2, 4, 1], &[0x30, 2, 0x1F, 0],
+        &[4u8] as &[u8],
+        &[4, 1],
+        &[0x1F, 0],
+        &[0x3F, 0],
+        &[0xDF, 0],
+        &[4, 0x80],
+        &[4, 0x81, 1, 0],
+        &[0x30, 1, 4],
+        &[0x30, 2, 4, 1],
+        &[0x30, 2, 0x1F, 0],
     ] {
         assert_eq!(reply(&invoke(&[ID, &[2, 1, 6], further])), general_null(2), "{further:02x?}");
     }
@@ -95,8 +103,18 @@ fn second_element() {
 #[test]
 fn operations() {
     for unknown in [
-        &[2u8, 1, 5] as &[u8], &[2, 1, 0x86], &[2, 2, 1, 6], &[2, 2, 6, 0], &[2, 2, 0xFF, 6], &[6, 1, 6], &object(0),
-        &object(2), &object(5), &object(0x15), &[6, 5, 4, 0, 0x82, 0x71, 1], &[6, 6, 4, 0, 0x82, 0x71, 2, 1],
+        &[2u8, 1, 5] as &[u8],
+        &[2, 1, 0x86],
+        &[2, 2, 1, 6],
+        &[2, 2, 6, 0],
+        &[2, 2, 0xFF, 6],
+        &[6, 1, 6],
+        &object(0),
+        &object(2),
+        &object(5),
+        &object(0x15),
+        &[6, 5, 4, 0, 0x82, 0x71, 1],
+        &[6, 6, 4, 0, 0x82, 0x71, 2, 1],
         &[6, 7, 4, 0, 0x82, 0x71, 1, 4, 0],
     ] {
         assert_eq!(reply(&invoke(&[ID, unknown, &[2, 1, 0]])), with_id(0x81, 1), "{unknown:02x?}");
@@ -115,8 +133,14 @@ fn argument_of_explicit() {
 #[test]
 fn link_ids_are_signed() {
     for (octets, value) in [
-        (&[2u8, 1, 0xFF] as &[u8], -1), (&[2, 2, 0, 0xFF], 255), (&[2, 2, 0xFF, 0xFF], -1), (&[2, 1, 0x80], -128),
-        (&[2, 2, 0x80, 0], -32768), (&[2, 2, 0, 5], 5), (&[2, 1, 0x7F], 127), (&[2, 2, 0xFF, 0x7F], -129),
+        (&[2u8, 1, 0xFF] as &[u8], -1),
+        (&[2, 2, 0, 0xFF], 255),
+        (&[2, 2, 0xFF, 0xFF], -1),
+        (&[2, 1, 0x80], -128),
+        (&[2, 2, 0x80, 0], -32768),
+        (&[2, 2, 0, 5], 5),
+        (&[2, 1, 0x7F], 127),
+        (&[2, 2, 0xFF, 0x7F], -129),
     ] {
         let component = invoke(&[ID, &object(EXPLICIT), octets]);
         let operation = Operation::Explicit(LinkId(value));

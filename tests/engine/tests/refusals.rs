@@ -66,8 +66,12 @@ fn kind_comes_before_length() {
         assert_eq!(refused(&board, &[kind; 25], 128), 4);
     }
     let whole = [
-        open(Reference(1), 1, 0, 0, b""), progress(Reference(1), 4), hold(Reference(1), 1), release(1),
-        facility(Reference(1), &[0xA2]), answer(1),
+        open(Reference(1), 1, 0, 0, b""),
+        progress(Reference(1), 4),
+        hold(Reference(1), 1),
+        release(1),
+        facility(Reference(1), &[0xA2]),
+        answer(1),
     ];
     for record in whole {
         for length in 1..record.len() {
@@ -85,8 +89,7 @@ fn fields_of_open() {
     desk.call(1, 0, 3, 0);
     let good = open(Reference(1), 101, 0, 0, b"12");
     assert_eq!(refused(&desk.board, &good, 128), 6);
-    let bad: [(usize, u8); 8] =
-        [(7, 2), (8, 2), (9, 16), (9, 1), (9, 3), (10, b'/'), (11, b':'), (12, b'0')];
+    let bad: [(usize, u8); 8] = [(7, 2), (8, 2), (9, 16), (9, 1), (9, 3), (10, b'/'), (11, b':'), (12, b'0')];
     for (place, octet) in bad {
         let mut record = good.clone();
         record[place] = octet;

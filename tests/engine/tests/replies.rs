@@ -4,7 +4,9 @@ mod common;
 
 use common::{error, Desk, DONE, ID, NOT_ASSIGNED};
 use engine::board::{LinkId, Reference, Row, Standing};
-use engine::records::{answer, execute, explicit, explicit_link, facility, long_integer, open, progress, release};
+use engine::records::{
+    answer, execute, explicit, explicit_link, facility, long_integer, open, progress, release,
+};
 
 fn tell(leg: u32, message: u8, description: u8, mark: u8, request: u8, digits: &[u8]) -> Vec<u8> {
     let mut octets = vec![0x82];
@@ -48,12 +50,8 @@ fn both_active() {
     party(&mut desk, 2, 10, 1, b"123456789012345");
     hold(&mut desk, 1);
     let octets = desk.ok(&facility(Reference(2), &execute(ID)));
-    let expected = [
-        reply(2, DONE),
-        dropped(2, 1),
-        tell(102, 0, 0xEA, 1, 1, b"21"),
-        tell(101, 0, 0xEA, 2, 1, b""),
-    ];
+    let expected =
+        [reply(2, DONE), dropped(2, 1), tell(102, 0, 0xEA, 1, 1, b"21"), tell(101, 0, 0xEA, 2, 1, b"")];
     assert_eq!(octets, expected.concat());
     assert_eq!(octets.len(), 92);
     assert_eq!(desk.board.rows[0].standing, Standing::Joined { partner: 102, alerts: false });
@@ -69,12 +67,8 @@ fn one_alerting_named_active() {
     party(&mut desk, 2, 4, 0, b"33");
     hold(&mut desk, 1);
     let octets = desk.ok(&facility(Reference(1), &execute(ID)));
-    let expected = [
-        reply(1, DONE),
-        dropped(1, 2),
-        tell(101, 0, 0xE9, 0, 1, b""),
-        tell(102, 1, 0xEA, 1, 0, b"21"),
-    ];
+    let expected =
+        [reply(1, DONE), dropped(1, 2), tell(101, 0, 0xE9, 0, 1, b""), tell(102, 1, 0xEA, 1, 0, b"21")];
     assert_eq!(octets, expected.concat());
     assert_eq!(desk.board.rows[0].standing, Standing::Joined { partner: 102, alerts: false });
     assert_eq!(desk.board.rows[1].standing, Standing::Joined { partner: 101, alerts: true });
@@ -90,12 +84,8 @@ fn one_alerting_named_alerting_and_held() {
     hold(&mut desk, 2);
     let link = desk.link(1).unwrap();
     let octets = desk.ok(&facility(Reference(2), &explicit_link(ID, link)));
-    let expected = [
-        reply(2, DONE),
-        dropped(2, 1),
-        tell(102, 1, 0xEA, 0, 0, b""),
-        tell(101, 0, 0xE9, 0, 1, b""),
-    ];
+    let expected =
+        [reply(2, DONE), dropped(2, 1), tell(102, 1, 0xEA, 0, 0, b""), tell(101, 0, 0xE9, 0, 1, b"")];
     assert_eq!(octets, expected.concat());
     assert_eq!(desk.ok(&answer(102)), tell(101, 0, 0xEA, 2, 0, b""));
 }

@@ -14,7 +14,7 @@ use engine::rows::{board_sound, count, lookup};
 /// Both ways to judge a board have to agree.
 fn sound(board: &Board) -> bool {
     let plain = board_sound(board);
-    assert_eq!(Index::new().fill(board), plain);
+    assert_eq!(Index::empty().fill(board), plain);
     plain
 }
 

@@ -36,7 +36,13 @@ impl Desk {
     /// A call with leg 100 + reference and three digits made from it.
     pub fn call(&mut self, reference: u16, direction: u8, state: u8, aux: u8) {
         let digits = format!("{reference:03}");
-        self.ok(&records::open(Reference(reference), 100 + reference as u32, direction, 0, digits.as_bytes()));
+        self.ok(&records::open(
+            Reference(reference),
+            100 + reference as u32,
+            direction,
+            0,
+            digits.as_bytes(),
+        ));
         match (direction, state) {
             (0, 4) | (_, 10) => drop(self.ok(&records::progress(Reference(reference), state))),
             _ => {}
