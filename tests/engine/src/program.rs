@@ -1,7 +1,7 @@
 //! Running another player: the log on its standard input, the text from its output.
 
 use std::io::{ErrorKind, Read, Write};
-use std::process::{Child, ChildStdin, Command, Stdio};
+use std::process::{Child, ChildStdin, Command, ExitStatus, Stdio};
 use std::sync::{Arc, Mutex};
 use std::thread;
 use std::time::{Duration, Instant};
@@ -51,18 +51,33 @@ impl Program {
             let read = output.read_to_end(&mut text);
             (writer.join(), read)
         });
-        let ended = self.running.lock().unwrap().take().map(|(mut child, _)| child.wait());
-        match (written, read, ended) {
-            (Ok(Ok(())), Ok(_), Some(Ok(status))) if status.code().is_some() => Ok(text),
-            (_, _, Some(Ok(status))) => Err(format!("{} ended badly: {status}", self.path)),
+        match (written, read, self.end()) {
+            (Ok(Ok(())), Ok(_), Some(status)) if status.code().is_some() => Ok(text),
+            (_, _, Some(status)) => Err(format!("{} ended badly: {status}", self.path)),
             _ => Err(format!("{}: pipe trouble", self.path)),
+        }
+    }
+
+    /// Waits for the end, leaving the lock free in between for stopping a late run.
+    fn end(&self) -> Option<ExitStatus> {
+        loop {
+            let mut running = self.running.lock().unwrap();
+            match running.as_mut().map(|(child, _)| child.try_wait()) {
+                Some(Ok(None)) => {}
+                ended => {
+                    *running = None;
+                    return ended?.ok()?;
+                }
+            }
+            drop(running);
+            thread::sleep(Duration::from_micros(50));
         }
     }
 }
 
 /// Far more time than any sensible player needs.
 fn allowance(log: &[u8]) -> Duration {
-    Duration::from_secs(60 + log.len() as u64 / 20_000)
+    Duration::from_secs(60 + log.len() as u64 / 100_000)
 }
 
 /// A run that does not come to its end is stopped, which ends the comparison.

@@ -1,4 +1,4 @@
-//! A small pseudo-random source (splitmix64), the same on every machine.
+//! A small pseudo-random source (splitmix64): the same values for the same seed.
 
 pub struct Rng(u64);
 
