@@ -1,0 +1,121 @@
+//! Comparing another player's text with the engine's, octet by octet.
+
+use crate::logs::{Logs, CYCLES, LEAST_EVENTS};
+use crate::notice::watch;
+use crate::play::{next_record, play, start};
+use crate::program::{Feed, Program};
+use crate::tally::Tally;
+
+/// A transfer's octets in hex: Reply, then the two Drops, then two Tells.
+const TRANSFER: usize = 2 * 92;
+const DROPS: usize = 2 * 36;
+const DROP: usize = 2 * 3;
+/// So many logs, those after the long ones, are fed in small parts too.
+const FED_IN_PARTS: usize = 12;
+
+/// The first line that differs: its number from 1, what was expected, what came.
+#[derive(Debug, PartialEq, Eq)]
+pub struct Difference {
+    pub line: usize,
+    pub expected: String,
+    pub got: String,
+}
+
+pub fn compare(expected: &[u8], got: &[u8]) -> Result<(), Difference> {
+    if expected == got {
+        return Ok(());
+    }
+    let mut wanted = expected.split_inclusive(|&octet| octet == b'\n');
+    let mut given = got.split_inclusive(|&octet| octet == b'\n');
+    for line in 1.. {
+        match (wanted.next(), given.next()) {
+            (None, None) => break,
+            (Some(a), Some(b)) if a == b || drops_swapped(a, b) => {}
+            (a, b) => return Err(Difference { line, expected: shown(a), got: shown(b) }),
+        }
+    }
+    Ok(())
+}
+
+fn shown(line: Option<&[u8]>) -> String {
+    line.map_or("nothing".to_string(), |line| format!("{:?}", String::from_utf8_lossy(line)))
+}
+
+/// Whether two lines of a transfer differ in the order of its Drops alone.
+fn drops_swapped(expected: &[u8], got: &[u8]) -> bool {
+    let Some(space) = expected.iter().rposition(|&octet| octet == b' ') else { return false };
+    let octets = &expected[space + 1..];
+    // The line ends with a line feed.
+    if octets.len() != TRANSFER + 1 || &octets[DROPS..DROPS + 2] != b"83" {
+        return false;
+    }
+    let first = space + 1 + DROPS;
+    let mut swapped = expected.to_vec();
+    swapped[first..first + 2 * DROP].rotate_left(DROP);
+    swapped == got
+}
+
+/// Plays all logs of a seed through the engine alone.
+pub fn engine_alone(seed: u64) -> Result<Tally, String> {
+    let mut tally = Tally::default();
+    for log in Logs::new(seed) {
+        watch(&log, &mut tally).map_err(|fault| format!("{fault}\nlog {}", hex(&log)))?;
+    }
+    finished(&tally)?;
+    Ok(tally)
+}
+
+/// Plays all logs of a seed through the engine and another player.
+pub fn against(path: &str, seed: u64) -> Result<Tally, String> {
+    let program = Program::new(path, &[]);
+    let mut tally = Tally::default();
+    let mut expected = Vec::new();
+    for (number, log) in Logs::new(seed).enumerate() {
+        watch(&log, &mut tally).map_err(|fault| format!("{fault}\nlog {}", hex(&log)))?;
+        expected.clear();
+        play(&log, &mut expected);
+        same(&program, &log, Feed::Whole, &expected)?;
+        if (CYCLES..CYCLES + FED_IN_PARTS).contains(&number) {
+            let size = if number % 3 == 0 { 7 } else { 1 };
+            same(&program, &log, Feed::Parts(size), &expected)?;
+        }
+    }
+    finished(&tally)?;
+    Ok(tally)
+}
+
+fn same(program: &Program, log: &[u8], feed: Feed, expected: &[u8]) -> Result<(), String> {
+    let got = program.play(log, feed).map_err(|fault| format!("{fault}\nlog {}", hex(log)))?;
+    compare(expected, &got).map_err(|difference| {
+        let Difference { line, expected, got } = difference;
+        let log = hex(up_to(log, line - 1));
+        format!("log {log}\nline {line} differs\nexpected {expected}\ngot      {got}")
+    })
+}
+
+/// The log as far as the record of that number: it shows the difference just as well.
+fn up_to(log: &[u8], records: usize) -> &[u8] {
+    let Some((_, mut rest)) = start(log) else { return log };
+    for _ in 0..records {
+        let Some((_, after)) = next_record(rest) else { return log };
+        rest = after;
+    }
+    &log[..log.len() - rest.len()]
+}
+
+/// A run counts only if every occurrence was met and the events are many enough.
+fn finished(tally: &Tally) -> Result<(), String> {
+    let missing = tally.missing();
+    if !missing.is_empty() {
+        tally.print();
+        return Err(format!("never met: {}", missing.join("; ")));
+    }
+    if tally.events < LEAST_EVENTS {
+        return Err(format!("only {} events", tally.events));
+    }
+    Ok(())
+}
+
+pub fn hex(octets: &[u8]) -> String {
+    octets.iter().map(|octet| format!("{octet:02x}")).collect()
+}

@@ -1,0 +1,33 @@
+//! A separately written engine for the network side of Explicit Call Transfer,
+//! with a log player, a log generator and a comparison against another player.
+
+// The engine.
+pub mod board;
+pub mod component;
+pub mod event;
+pub mod index;
+pub mod play;
+pub mod reply;
+pub mod rows;
+pub mod serve;
+
+// Making logs.
+pub mod actions;
+pub mod cycle;
+pub mod damage;
+pub mod logs;
+pub mod odd;
+pub mod records;
+pub mod rng;
+pub mod script;
+
+// Tallying what occurs in them.
+pub mod notice;
+pub mod notice_component;
+pub mod tally;
+
+// Playing them through another program.
+pub mod compare;
+pub mod load;
+pub mod program;
+pub mod timing;

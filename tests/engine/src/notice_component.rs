@@ -1,0 +1,266 @@
+//! What occurs where a component is read and served.
+
+use crate::board::{Aux, Board, Call, CallState, LinkId, Reference, Row, MAX_LIVE};
+use crate::component::{read, take, Element, Operation, Reading, MAX_DEPTH};
+use crate::notice::{Moment, Past};
+use crate::reply::mark;
+use crate::serve::{pairs, verdict};
+use crate::tally::{Seen, Tally};
+
+pub fn served(moment: &Moment, reference: Reference, component: &[u8], past: &mut Past, tally: &mut Tally) {
+    tally.add_if(component.len() == 1, Seen::ComponentOne);
+    tally.add_if(component.len() == 32, Seen::ComponentFull);
+    match read(component) {
+        Reading::Nothing => tally.add(match component[0] {
+            0xA2 => Seen::IgnoredA2,
+            0xA3 => Seen::IgnoredA3,
+            _ => Seen::IgnoredA4,
+        }),
+        Reading::Reject { identifier, sort, problem } => {
+            tally.add_if(moment.before.subscribed == 0, Seen::RejectUnsubscribed);
+            rejected(component, identifier, sort, problem, tally);
+        }
+        Reading::Invoke { identifier, operation } => {
+            forms(component, identifier, operation, tally);
+            invoked(moment, reference, operation, component, past, tally);
+        }
+    }
+}
+
+fn rejected(component: &[u8], identifier: &[u8], sort: u8, problem: u8, tally: &mut Tally) {
+    let null = identifier == [5, 0];
+    match (sort, problem) {
+        (0x80, 0) => tally.add(Seen::General0),
+        (0x80, 2) => tally.add(structure(component)),
+        (0x80, _) if null => {
+            tally.add(Seen::General1Null);
+            tally.add_if(component.len() == 2, Seen::General1Empty);
+        }
+        (0x80, _) => tally.add(Seen::General1),
+        (_, 1) => {
+            let local = component[2 + identifier.len()] == 2;
+            tally.add(if local { Seen::Invoke1Local } else { Seen::Invoke1Object });
+        }
+        _ => {
+            tally.add(Seen::Invoke2);
+            tally.add_if(component.len() == 2 + identifier.len() + 8, Seen::Invoke2Absent);
+        }
+    }
+}
+
+/// Why a component has general problem 2.
+fn structure(component: &[u8]) -> Seen {
+    match component {
+        [_] => Seen::LengthAbsent,
+        [_, length, contents @ ..] if *length as usize == contents.len() => {
+            fault(contents, 1).unwrap_or(Seen::LengthWrong)
+        }
+        _ => Seen::LengthWrong,
+    }
+}
+
+fn fault(mut octets: &[u8], depth: u8) -> Option<Seen> {
+    while let [tag, tail @ ..] = octets {
+        if depth > MAX_DEPTH {
+            return Some(Seen::DepthFive);
+        }
+        if tag & 0x1F == 0x1F {
+            return Some(Seen::ElementTag);
+        }
+        if tail.first().is_some_and(|&length| length >= 128) {
+            return Some(Seen::ElementLength);
+        }
+        let Some((element, rest)) = take(octets) else { return Some(Seen::ElementCut) };
+        if tag & 0x20 != 0 {
+            if let Some(seen) = fault(element.contents, depth + 1) {
+                return Some(seen);
+            }
+        }
+        octets = rest;
+    }
+    None
+}
+
+/// The deepest element, and whether a constructed one at depth 4 is empty.
+fn depth(mut octets: &[u8], at: u8) -> (u8, bool) {
+    let mut deepest = (at - 1, false);
+    while let Some((element, rest)) = take(octets) {
+        let inner = if element.tag & 0x20 != 0 { depth(element.contents, at + 1) } else { (at, false) };
+        let empty = at == MAX_DEPTH && element.tag & 0x20 != 0;
+        deepest = (deepest.0.max(inner.0), deepest.1 | inner.1 | empty);
+        octets = rest;
+    }
+    deepest
+}
+
+fn elements(mut octets: &[u8]) -> Vec<Element<'_>> {
+    let mut list = Vec::new();
+    while let Some((element, rest)) = take(octets) {
+        list.push(element);
+        octets = rest;
+    }
+    list
+}
+
+/// The forms in which a component that is served was written.
+fn forms(component: &[u8], identifier: &[u8], operation: Operation, tally: &mut Tally) {
+    let list = elements(&component[2..]);
+    let needed = if matches!(operation, Operation::Explicit(_)) { 3 } else { 2 };
+    tally.add_if(list.len() > needed, Seen::Further);
+    let (deepest, empty) = depth(&component[2..], 1);
+    tally.add_if(deepest == 4, Seen::DepthFour);
+    tally.add_if(empty, Seen::DepthFourEmpty);
+    match *identifier {
+        [_, _, octet] => tally.add_if(octet >= 0x80, Seen::IdentifierNegative),
+        [_, _, high, low] => {
+            let padded = i8::try_from(i16::from_be_bytes([high, low])).is_ok();
+            tally.add(if padded { Seen::IdentifierPadded } else { Seen::IdentifierTwo });
+        }
+        _ => {}
+    }
+    let padded = operation == Operation::Execute && list[1].contents.len() == 2;
+    tally.add_if(padded, Seen::LocalPadded);
+}
+
+fn invoked(
+    moment: &Moment,
+    reference: Reference,
+    operation: Operation,
+    component: &[u8],
+    past: &mut Past,
+    tally: &mut Tally,
+) {
+    let board = moment.before;
+    let Some(named) = row_of(board, |call| call.reference == reference) else { return };
+    let Some(call) = named.call() else { return };
+    if board.subscribed == 0 {
+        return tally.add(match operation {
+            Operation::Execute => Seen::UnsubscribedExecute,
+            Operation::Explicit(_) => Seen::UnsubscribedExplicit,
+            Operation::LinkRequest => Seen::UnsubscribedLink,
+        });
+    }
+    match operation {
+        Operation::LinkRequest => linked(moment, call, tally),
+        Operation::Execute => executed(moment, named, call, past, tally),
+        Operation::Explicit(link) => explicit(moment, named, call, link, component, past, tally),
+    }
+}
+
+fn row_of(board: &Board, test: impl Fn(&Call) -> bool) -> Option<&Row> {
+    board.rows.iter().find(|row| row.call().is_some_and(&test))
+}
+
+fn others<'a>(board: &'a Board, call: &'a Call) -> impl Iterator<Item = &'a Row> {
+    let other = |row: &&Row| row.call().is_some_and(|second| second.reference != call.reference);
+    board.rows.iter().filter(other)
+}
+
+fn linked(moment: &Moment, call: &Call, tally: &mut Tally) {
+    let live = moment.before.rows.iter().filter_map(Row::call).filter(|call| call.link.is_some()).count();
+    if call.link.is_some() {
+        tally.add(Seen::LinkAgain);
+        return tally.add_if(live == MAX_LIVE, Seen::LinkAgainFull);
+    }
+    if live == MAX_LIVE {
+        return tally.add(Seen::LinkNone);
+    }
+    let given = LinkId(moment.after.candidate.0.wrapping_sub(1)).0;
+    tally.add(Seen::LinkNew);
+    tally.add_if(live == MAX_LIVE - 1, Seen::LinkSixteenth);
+    tally.add_if(given == i16::MAX, Seen::LinkWrap);
+    tally.add_if(given == i16::MIN, Seen::LinkLowest);
+    tally.add_if(given != moment.before.candidate.0, Seen::LinkSkip);
+    tally.add(match (given < 0, i8::try_from(given).is_ok()) {
+        (false, true) => Seen::LinkPositiveOne,
+        (false, false) => Seen::LinkPositiveTwo,
+        (true, true) => Seen::LinkNegativeOne,
+        (true, false) => Seen::LinkNegativeTwo,
+    });
+}
+
+fn executed(moment: &Moment, named: &Row, call: &Call, past: &mut Past, tally: &mut Tally) {
+    let board = moment.before;
+    let verdicts = || others(board, call).filter_map(Row::call).map(|second| verdict(call, second));
+    let fitting: Vec<&Row> = others(board, call)
+        .filter(|row| row.call().is_some_and(|second| pairs(call, second, board.alerting)))
+        .collect();
+    let alerting_off = board.alerting == 0 && verdicts().any(|verdict| verdict == 2);
+    let &[other] = fitting.as_slice() else {
+        tally.add(if fitting.is_empty() { Seen::ExecuteNone } else { Seen::ExecuteSeveral });
+        return tally.add_if(fitting.is_empty() && alerting_off, Seen::ExecuteAlertingOff);
+    };
+    tally.add_if(alerting_off, Seen::TransferPassesAlerting);
+    let requested = others(board, call).filter_map(Row::call).any(|second| {
+        second.aux == Aux::HoldRequest && second.state == CallState::Active && call.aux == Aux::Idle
+    });
+    tally.add_if(requested, Seen::TransferPassesHoldRequest);
+    let seen = [Seen::ImplicitActive, Seen::ImplicitNamedAlerts, Seen::ImplicitOtherAlerts];
+    transferred(named, other, seen, past, tally);
+}
+
+fn explicit(
+    moment: &Moment,
+    named: &Row,
+    call: &Call,
+    link: LinkId,
+    component: &[u8],
+    past: &mut Past,
+    tally: &mut Tally,
+) {
+    let Some(other) = row_of(moment.before, |call| call.link == Some(link)) else {
+        tally.add(Seen::NotAssigned);
+        tally.add_if(link.0 < 0, Seen::NotAssignedNegative);
+        return tally.add_if(past.links.contains(&link), Seen::NotAssignedGone);
+    };
+    let Some(second) = other.call() else { return };
+    if other.leg == named.leg {
+        return tally.add(Seen::OwnLink);
+    }
+    if !pairs(call, second, moment.before.alerting) {
+        tally.add(Seen::LinkNoPair);
+        return tally.add_if(verdict(call, second) == 2, Seen::LinkAlertingOff);
+    }
+    let octets = elements(&component[2..])[2].contents.len();
+    link_form(link, octets, tally);
+    let seen = [Seen::ExplicitActive, Seen::ExplicitNamedAlerts, Seen::ExplicitOtherAlerts];
+    transferred(named, other, seen, past, tally);
+}
+
+fn link_form(link: LinkId, octets: usize, tally: &mut Tally) {
+    let short = i8::try_from(link.0).is_ok();
+    tally.add_if(link.0 == i16::MIN, Seen::ExplicitLowest);
+    tally.add(match (link.0 < 0, short, octets) {
+        (false, true, 1) => Seen::ExplicitPositiveOne,
+        (false, true, _) => Seen::ExplicitPadded,
+        (false, false, _) => Seen::ExplicitPositiveTwo,
+        (true, true, 1) => Seen::ExplicitNegativeOne,
+        (true, true, _) => Seen::ExplicitNegativePadded,
+        (true, false, _) => Seen::ExplicitNegativeTwo,
+    });
+}
+
+/// `seen` is for both Active, the named call alerting, the other call alerting.
+fn transferred(named: &Row, other: &Row, seen: [Seen; 3], past: &mut Past, tally: &mut Tally) {
+    let (Some(a), Some(b)) = (named.call(), other.call()) else { return };
+    past.references.extend([a.reference, b.reference]);
+    past.links.extend(a.link.iter().chain(&b.link));
+    tally.add(if a.aux == Aux::Held { Seen::TransferNamedHeld } else { Seen::TransferNamedIdle });
+    tally.add_if(a.link.is_some(), Seen::TransferLinkNamed);
+    tally.add_if(b.link.is_some(), Seen::TransferLinkOther);
+    let (alerting, active) = match (a.state, b.state) {
+        (CallState::Delivered, _) => (a, other),
+        (_, CallState::Delivered) => (b, named),
+        _ => {
+            tally.add(seen[0]);
+            let marks = [Seen::TellUnknown, Seen::TellGiven, Seen::TellWithheld];
+            tally.add(marks[mark(named) as usize]);
+            return tally.add(marks[mark(other) as usize]);
+        }
+    };
+    tally.add(if alerting.reference == a.reference { seen[1] } else { seen[2] });
+    let held = alerting.aux == Aux::Held;
+    tally.add(if held { Seen::TransferAlertingHeld } else { Seen::TransferAlertingIdle });
+    let marks = [Seen::NotifyUnknown, Seen::NotifyGiven, Seen::NotifyWithheld];
+    tally.add(marks[mark(active) as usize]);
+}
