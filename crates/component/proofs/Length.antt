@@ -1,8 +1,9 @@
 -- How long answers are. Assumes nothing.
 use Prim.Native.Nat.{ℕ, _≤_}
 use native.Mathlib.Omega.{arith}
+use mathlib.Core.Path.{_≡_}
 use mathlib.Core.List.{List, _++_}
-use lib.ListN.{length}
+use lib.ListN.{length, length-append, length-replicate}
 use Rattle.octets.specs.declared.IntegerOctets.{IntegerOctets}
 use Rattle.octets.specs.declared.IntegerOctets.the-variants.{One, Two}
 use Rattle.octets.specs.Numbers.{fewest}
@@ -11,7 +12,7 @@ use Rattle.component.specs.declared.Reject.the-variants.{Null, General, 
 use Rattle.component.specs.declared.Answer.{Answer}
 use Rattle.component.specs.declared.Answer.the-variants as answer
 use Rattle.component.specs.Reading.{ectObject}
-use Rattle.component.specs.Answers.{element, integer, rejectOctets, answerOctets}
+use Rattle.component.specs.Answers.{element, integer, rejectOctets, answerOctets, encoded}
 
 reject-length : (r : Reject) → length (rejectOctets r) ≤ 32
 reject-length (Null p) = omega arith
@@ -37,3 +38,7 @@ answer-length (answer.LinkIdNotAssigned (Two a b)) = omega arith
 answer-length (answer.Result (One a)) = omega arith
 answer-length (answer.Result (Two a b)) = omega arith
 answer-length (answer.LinkIdResult i l) = result-length i (fewest (l .0))
+
+pub encoded-length : (a : Answer) → length (encoded a .octets) ≡ 32
+unfolding encoded
+encoded-length a = simp (length-append, length-replicate) (omega (arith, answer-length a))

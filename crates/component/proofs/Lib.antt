@@ -3,3 +3,5 @@ pub mod ElementLaws
 pub mod ReadingLaws
 pub mod WriterLaws
 pub mod Length
+pub mod Tags
+mod Examples

@@ -29,7 +29,9 @@ push-requires-8 : tie.Need-push-requires-8
 push-requires-8 c κs = search needs
 
 returns : tie.Need-returns
-returns c = join (c .before .before .before .before .before .before .before .push .ensures) (join (c .before .before .before .before .before .before .push2 .ensures) (join (c .before .before .before .before .before .push3 .ensures) (join (c .before .before .before .before .push4 .ensures) (join (c .before .before .before .push5 .ensures) (join (c .before .before .push6 .ensures) (join (c .before .push7 .ensures) (c .push8 .ensures)))))))
+returns c =
+    let end = join (c .before .before .before .push5 .ensures) (join (c .before .before .push6 .ensures) (join (c .before .push7 .ensures) (c .push8 .ensures))) in
+    join (c .before .before .before .before .before .before .before .push .ensures) (join (c .before .before .before .before .before .before .push2 .ensures) (join (c .before .before .before .before .before .push3 .ensures) (join (c .before .before .before .before .push4 .ensures) end)))
 
 pub push-object-spec : {M : Type 1} → statement M
 push-object-spec =

@@ -35,7 +35,10 @@ push-integer-requires c κs = search needs
 returns : tie.Need-returns
 unfolding answerOctets
 returns c =
-    rw (← c .before .before .before .before .before .before .to-octets .ensures) (sequence (c .before .before .before .before .before .before .before .args .id) (c .before .before .before .before .before .before .to-octets .result) (c .before .before .before .before .before .integer-len .ensures .0) (c .before .before .before .before .start .ensures .0) (c .before .before .before .push .ensures) (c .before .before .push2 .ensures) (c .before .push-object .ensures) (c .push-integer .ensures .0))
+    let s = c .before .before .before .before .start .ensures .0 in
+    let n = c .before .before .before .before .before .integer-len .ensures .0 in
+    rw (← c .before .before .before .before .before .before .to-octets .ensures)
+    (sequence (c .before .before .before .before .before .before .before .args .id) (c .before .before .before .before .before .before .to-octets .result) n s (c .before .before .before .push .ensures) (c .before .before .push2 .ensures) (c .before .push-object .ensures) (c .push-integer .ensures .0))
 
 pub link-id-result-spec : {M : Type 1} → statement M
 link-id-result-spec =

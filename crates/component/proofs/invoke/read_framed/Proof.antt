@@ -42,7 +42,9 @@ enum-told-2 : tie.Need-enum-told-2
 enum-told-2 c = search needs
 
 returns-3 : tie.Need-returns-3
-returns-3 c = simp (framed (c .before .before .before .before .before .before .before .before .args .s .now) (c .before .before .before .before .before .before .if1 .left), eq-eqb _ _ (c .before .before .before .before .if2 .left), rw (rest, c .enum-told2 .given .1) at (sym (c .before .before .read-elements .ensures)))
+returns-3 c =
+    let w = rw (rest, c .enum-told2 .given .1) at (sym (c .before .before .read-elements .ensures)) in
+    simp (framed (c .before .before .before .before .before .before .before .before .args .s .now) (c .before .before .before .before .before .before .if1 .left), eq-eqb _ _ (c .before .before .before .before .if2 .left), w)
 
 sub-read-invoke : tie.Need-sub-read-invoke
 sub-read-invoke c = search needs
@@ -57,7 +59,9 @@ read-invoke-requires : tie.Need-read-invoke-requires
 read-invoke-requires c κs = search needs
 
 returns-4 : tie.Need-returns-4
-returns-4 c = c .read-invoke .ensures ∙ simp (framed (c .before .before .before .before .before .before .before .before .before .before .args .s .now) (c .before .before .before .before .before .before .before .before .if1 .left), eq-eqb _ _ (c .before .before .before .before .before .before .if2 .left), rw (rest, c .before .before .enum-told .given .1) at (sym (c .before .before .before .before .read-elements .ensures)), rest)
+returns-4 c =
+    let w = rw (rest, c .before .before .enum-told .given .1) at (sym (c .before .before .before .before .read-elements .ensures)) in
+    c .read-invoke .ensures ∙ simp (framed (c .before .before .before .before .before .before .before .before .before .before .args .s .now) (c .before .before .before .before .before .before .before .before .if1 .left), eq-eqb _ _ (c .before .before .before .before .before .before .if2 .left), w, rest)
 
 pub read-framed-spec : {M : Type 1} → statement M
 read-framed-spec =

@@ -73,7 +73,9 @@ read-global-requires c κs = search needs
 returns-3 : tie.Need-returns-3
 unfolding identifiedReading
 returns-3 c =
-    c .read-global .ensures ∙ rw (integer-none (c .before .before .before .before .before .before .before .before .before .read-integer .ensures) (c .before .before .before .before .before .before .before .enum-told .given .1), object-is (c .before .before .before .before .before .before .read-object .ensures) (c .before .before .before .before .len .given .1), object-rest (c .before .before .before .before .before .before .read-object .ensures) (c .before .before .before .before .len .given .1))
+    let i = integer-none (c .before .before .before .before .before .before .before .before .before .read-integer .ensures) (c .before .before .before .before .before .before .before .enum-told .given .1) in
+    let o = c .before .before .before .before .before .before .read-object .ensures in
+    c .read-global .ensures ∙ rw (i, object-is o (c .before .before .before .before .len .given .1), object-rest o (c .before .before .before .before .len .given .1))
 
 pub read-operation-spec : {M : Type 1} → statement M
 read-operation-spec =
