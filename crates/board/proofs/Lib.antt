@@ -1,6 +1,5 @@
 pub mod Soundness
 pub mod Long
-pub mod Signed
 pub mod Standings
 pub mod Searches
 pub mod FreeLinkIds
