@@ -1,3 +1,4 @@
+-- Laws of the board, for the proofs of this crate and of those above it.
 pub mod Soundness
 pub mod Long
 pub mod Standings

@@ -95,7 +95,7 @@ pub fn lookup(board: Board, reference: CallReference) -> Found
     find(board, Key::Reference(reference))
 }
 
-// The first LinkId that is not live, from `first` upward. Of 16 values one is free unless 16 are live.
+// The first LinkId that is not live, from `first` upward. With fewer than 16 live, one of 16 values is free.
 fn free_from(board: Board, first: LinkId) -> OptionalLinkId
     ensures { λ r. ⌜ r ≡ optionalLinkId (freeLinkId 16 (first .0) (liveLinkIds (board .rows))) ⌝ }
 {
