@@ -1,3 +1,4 @@
+-- What the rules say of the board: its contents, when it is sound, what is found in it, and what events make of it.
 pub mod States
 pub mod Entries
 pub mod Soundness

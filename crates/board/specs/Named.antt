@@ -1,4 +1,4 @@
--- The call that a change names (document 01, "Event records": "Progress writes the call state, Hold the auxiliary state, of the call with that
+-- The call that a change names (document 01, "The book": "Progress writes the call state, Hold the auxiliary state, of the call with that
 -- reference").
 use Prim.Native.Nat.{ℕ}
 use mathlib.Core.Bool.{cond}

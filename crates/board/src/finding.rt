@@ -1,7 +1,6 @@
 // Finding a row of the board: one loop for every key that the rules look a row up by.
 ghost use mathlib.Core.Path.{_≡_};
 ghost use Rattle.octets.specs.Lists.{placeFrom};
-ghost use Rattle.octets.specs.Numbers.{sameLinkId, nextLinkId};
 ghost use Rattle.board.specs.Entries.{occupied, linkIdIn, isLinkId};
 ghost use Rattle.board.specs.Lookup.{isCallOf, foundAt, lookup as lookupRows};
 ghost use Rattle.board.specs.Keys.{linkOf, matchesKey};
@@ -56,18 +55,12 @@ fn link_of(standing: Standing) -> OptionalLinkId
     }
 }
 
-fn same_link_id(a: LinkId, b: LinkId) -> bool
-    ensures { λ r. ⌜ r ≡ sameLinkId (a .0) (b .0) ⌝ }
-{
-    a.0 == b.0
-}
-
 fn is_link_id(link: OptionalLinkId, id: LinkId) -> bool
     ensures { λ r. ⌜ r ≡ isLinkId (id .0) (linkIdIn link) ⌝ }
 {
     match link {
         OptionalLinkId::Absent => false,
-        OptionalLinkId::Present(own) => same_link_id(id, own),
+        OptionalLinkId::Present(own) => id.same(own),
     }
 }
 
@@ -102,18 +95,7 @@ pub fn lookup(board: Board, reference: CallReference) -> Found
     find(board, Key::Reference(reference))
 }
 
-fn next_link_id(id: LinkId) -> LinkId
-    ensures { λ r. ⌜ r ≡ record { 0 = nextLinkId (id .0) } ⌝ }
-{
-    let z = id.0;
-    if z == 32767 {
-        LinkId(-32768)
-    } else {
-        LinkId(z + 1)
-    }
-}
-
-// The first LinkId that is not live, from `first` upward. Of 16 values one is free unless 16 are live.
+// The first LinkId that is not live, from `first` upward. With fewer than 16 live, one of 16 values is free.
 fn free_from(board: Board, first: LinkId) -> OptionalLinkId
     ensures { λ r. ⌜ r ≡ optionalLinkId (freeLinkId 16 (first .0) (liveLinkIds (board .rows))) ⌝ }
 {
@@ -122,7 +104,7 @@ fn free_from(board: Board, first: LinkId) -> OptionalLinkId
         if let Found::Nothing = find(board, Key::LinkId(id)) {
             return OptionalLinkId::Present(id);
         }
-        id = next_link_id(id);
+        id = id.next();
     }
     OptionalLinkId::Absent
 }

@@ -30,8 +30,8 @@ returns c = ap optionalLinkId (free-here (c .before .before .before .before .loo
 enum-told-2 : tie.Need-enum-told-2 Inv-loop μ-loop
 enum-told-2 c = search needs
 
-next-link-id-requires : tie.Need-next-link-id-requires Inv-loop μ-loop
-next-link-id-requires c κs = search needs
+next-requires : tie.Need-next-requires Inv-loop μ-loop
+next-requires c κs = search needs
 
 add-k : tie.Need-add-k Inv-loop μ-loop
 add-k c = search needs
@@ -43,7 +43,7 @@ loop-again : tie.Need-loop-again Inv-loop μ-loop
 loop-again c =
     let rows = c .before .before .before .before .before .before .args .board .rows in
     let k = c .before .before .before .before .before .loop .k in
-    (search needs, ap (λ (l : LinkId). freeLinkId (16 - (k + 1)) (l .0) (liveLinkIds rows)) (c .next-link-id .ensures) ∙ free-next (c .before .before .before .before .before .loop .id) rows 16 k (omega arith) _ (told (c .before .before .before .find .ensures) (c .before .enum-told2 .given .1)) ∙ c .before .before .before .before .before .loop .inv .1)
+    (search needs, ap (λ (l : LinkId). freeLinkId (16 - (k + 1)) (l .0) (liveLinkIds rows)) (c .next .ensures) ∙ free-next (c .before .before .before .before .before .loop .id) rows 16 k (omega arith) _ (told (c .before .before .before .find .ensures) (c .before .enum-told2 .given .1)) ∙ c .before .before .before .before .before .loop .inv .1)
 
 returns-2 : tie.Need-returns-2 Inv-loop μ-loop
 returns-2 c = ap optionalLinkId (free-end (c .before .loop .id .0) (liveLinkIds (c .before .before .args .board .rows)) 16 (c .before .loop .k) (omega arith) ∙ c .before .loop .inv .1)
@@ -59,7 +59,7 @@ free-from-spec =
     enum-told
     returns
     enum-told-2
-    next-link-id-requires
+    next-requires
     add-k
     loop-less
     loop-again
