@@ -4,6 +4,9 @@ use octets::LinkId;
 ghost use mathlib.Core.Path.{_≡_};
 ghost use Rattle.board.specs.Making.{emptyRow, emptyBoard, unmade, fresh as freshBoard};
 
+pub mod counting;
+pub mod soundness;
+
 // 0 outgoing, 1 incoming.
 pub enum Direction {
     Outgoing,

@@ -1,1 +1,3 @@
+pub mod LinkIds
 pub mod Lists
+pub mod Loops
