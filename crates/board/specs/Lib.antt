@@ -2,7 +2,9 @@
 pub mod States
 pub mod Entries
 pub mod Soundness
+pub mod RowTests
 pub mod Lookup
+pub mod Tallies
 pub mod Counts
 pub mod Making
 pub mod Changes

@@ -5,7 +5,9 @@ ghost use mathlib.Core.Path.{_≡_};
 ghost use Rattle.board.specs.Making.{emptyRow, emptyBoard, unmade, fresh as freshBoard};
 
 pub mod changing;
+pub mod counting;
 pub mod finding;
+pub mod soundness;
 
 // 0 outgoing, 1 incoming.
 pub enum Direction {

@@ -5,7 +5,7 @@ use mathlib.Core.Bool.{true, Bool, cond, false}
 use mathlib.Core.List.{_∷_, List, []}
 use lib.Dec.{eqb, leb, ltb}
 use lib.ListN.{length, getD, drop}
-use Rattle.board.proofs.Soundness.{Sound, of-sound, sound-perm, sound-of}
+use Rattle.board.proofs.SoundEntries.{Sound, of-sound, sound-perm, sound-of}
 use Rattle.board.specs.Changes.{full}
 use Rattle.board.specs.Entries.{taken}
 use Rattle.board.specs.Making.{options, fresh, emptyBoard, unmade}

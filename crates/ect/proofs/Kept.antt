@@ -10,7 +10,7 @@ use mathlib.Core.Option.{some, none, Option}
 use lib.Dec.{eqb, leb, le→leb, nleb→lt, leb→le}
 use lib.ListN.{length}
 use lib.IntN.{ℤ}
-use Rattle.board.proofs.Soundness.{Sound, isNumber-same, refs-one, one-leg}
+use Rattle.board.proofs.SoundEntries.{Sound, isNumber-same, refs-one, one-leg}
 use Rattle.board.specs.Changes.{withState, withAuxiliary, withLinkId}
 use Rattle.board.specs.Counts.{legs}
 use Rattle.board.specs.declared.Connection.{Connection}

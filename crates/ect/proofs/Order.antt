@@ -7,7 +7,7 @@ use mathlib.Core.List.{List}
 use mathlib.Core.Option.{Option, none, some}
 use lib.ListN.{length}
 use lib.IntN.{ℤ}
-use Rattle.board.proofs.Soundness.{Sound, refs-one, lids-one, legs-one}
+use Rattle.board.proofs.SoundEntries.{Sound, refs-one, lids-one, legs-one}
 use Rattle.board.specs.Changes.{full}
 use Rattle.board.specs.declared.Connection.{Connection}
 use Rattle.board.specs.declared.Connection.the-variants.{WithUser, WithPartner}

@@ -9,7 +9,7 @@ use mathlib.Core.Option.{Option, some, none}
 use lib.Dec.{T, eqb, ltb, leb}
 use lib.ListN.{length}
 use lib.IntN.{ℤ}
-use Rattle.board.proofs.Soundness.{legs-one, Sound, one-leg}
+use Rattle.board.proofs.SoundEntries.{legs-one, Sound, one-leg}
 use Rattle.board.specs.Changes.{withLinkId, enter, withState, withAuxiliary}
 use Rattle.board.specs.declared.Connection.{Connection}
 use Rattle.board.specs.declared.Connection.the-variants.{WithPartner, WithUser}

@@ -8,7 +8,7 @@ use mathlib.Core.List.{_++_, _∷_, List, [], List·Memᴰ}
 use lib.Dec.{T, eqb, ltb, leb}
 use lib.ListN.{length}
 use lib.IntN.{ℤ}
-use Rattle.board.proofs.Soundness.{Sound, one-leg, sound-perm}
+use Rattle.board.proofs.SoundEntries.{Sound, one-leg, sound-perm}
 use Rattle.board.specs.Changes.{withLinkId, withState, withAuxiliary}
 use Rattle.board.specs.declared.Connection.{Connection}
 use Rattle.board.specs.declared.Connection.the-variants.{WithUser, WithPartner}

@@ -1,5 +1,7 @@
--- Laws of LinkIds, for the proofs of this crate and of those above it.
+-- Laws of lists, numbers and LinkIds, for the proofs of this crate and of those above it.
 pub mod Laws
+pub mod LinkIds
 pub mod Lists
-pub mod SameLinkId
+pub mod Loops
 pub mod Places
+pub mod SameLinkId

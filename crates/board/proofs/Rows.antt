@@ -1,0 +1,191 @@
+-- Soundness of rows by the tests of one row and of two rows.
+use Prim.Native.Nat.{ℕ, zero, suc, _-_, _≤_, _<_}
+use native.Mathlib.Omega.{arith}
+use mathlib.Core.Path.{_≡_, refl, sym, ap, _∙_}
+use mathlib.Core.Bool.{Bool, true, false, _&&_, _||_, not}
+use mathlib.Core.List.{List, [], _∷_, List·Memᴰ}
+use mathlib.Core.Option.{Option, none, some}
+use lib.Dec.{eqb, leb}
+use lib.IntN.{ℤ}
+use lib.ListN.{length, getD, take}
+use lib.Seq.{take-suc, take-length}
+use Rattle.octets.specs.Lists.{any, all, keep, distinct}
+use Rattle.octets.specs.Tests.{has, noneOr, hasBoth}
+use Rattle.octets.proofs.Lists.{any-of, keep-ext, same-tests, true-not-false}
+use Rattle.octets.proofs.Loops.{all-pick, any-pick, distinct-pick, all-and, any-and, all-same, distinct-or, pick-skip, length-pick, length-keep-pick}
+use Rattle.board.specs.declared.Call.{Call}
+use Rattle.board.specs.declared.Standing.{Standing}
+use Rattle.board.specs.declared.Standing.the-variants.{Empty, Served, Joined}
+use Rattle.board.specs.declared.Row.{Row}
+use Rattle.board.specs.Entries.{Connection, WithUser, WithPartner, Entry, entryOf, rowEntry, taken, occupied, linkIdIn, linked, isJoined, linkIds}
+use Rattle.board.specs.Soundness.{validRow, validEntry, validParty, validStanding, sameLegs, sameReferences, sameLinkIds, sameLinkIdsIn, answersTo, validPartner, partnered, soundEntries, soundRows}
+use Rattle.board.specs.RowTests.{fits, sharing, clashing, clash, answered, paired, takenRow, joinedRow, linkedRow}
+use Rattle.board.specs.Tallies.{tallyOf}
+
+pub and-true : (b : Bool) → (b && true) ≡ b
+and-true true = refl
+and-true false = refl
+
+pub and-false : (b : Bool) → (b && false) ≡ false
+and-false true = refl
+and-false false = refl
+
+-- ---- one row
+
+pub no-answer : (n p : ℕ) (alerting : Bool) (leg : ℕ) (s : Standing) → eqb p leg ≡ false → has (answersTo n p alerting) (entryOf leg s) ≡ false
+no-answer n p a leg Empty e = refl
+no-answer n p a leg (Served c) e = rw e
+no-answer n p a leg (Joined q b) e = rw e
+
+pub taken-party : (leg p n : ℕ) (ds : List ℕ) (s : Standing) → occupied s ≡ true → validStanding leg p n ds s ≡ validParty p n ds
+taken-party leg p n ds Empty e = absurd (true-not-false e refl)
+taken-party leg p n ds (Served c) e = refl
+taken-party leg p n ds (Joined q a) e = refl
+
+pub empty-standing : (s : Standing) → occupied s ≡ false → s ≡ Empty
+empty-standing Empty e = refl
+empty-standing (Served c) e = absurd (true-not-false refl e)
+empty-standing (Joined q a) e = absurd (true-not-false refl e)
+
+pub taken-fits : (r : Row) → occupied (r .standing) ≡ true → noneOr validEntry (rowEntry r) ≡ true → fits r ≡ validParty (r .presentation) (r .count) (r .digits)
+unfolding fits validRow
+taken-fits r t e = rw (e, taken-party (r .leg) (r .presentation) (r .count) (r .digits) (r .standing) t) (and-true _)
+
+pub unfit-call : (r : Row) → noneOr validEntry (rowEntry r) ≡ false → fits r ≡ false
+unfolding fits
+unfit-call r e = rw e (and-false (validRow r))
+
+pub empty-row-fits : (r : Row) → occupied (r .standing) ≡ false → fits r ≡ validStanding (r .leg) (r .presentation) (r .count) (r .digits) Empty
+unfolding fits validRow
+empty-row-fits r t = rw (empty-standing (r .standing) t) (and-true _)
+
+-- ---- two rows
+
+pub joined-shares-not : (m p : ℕ) (a : Bool) (o : Option Entry) → hasBoth sharing (entryOf m (Joined p a)) o ≡ false
+joined-shares-not m p a none = refl
+joined-shares-not m p a (some f) = refl
+
+pub call-shares-not : (m : ℕ) (c : Call) (n p : ℕ) (a : Bool) → hasBoth sharing (entryOf m (Served c)) (entryOf n (Joined p a)) ≡ false
+call-shares-not m c n p a = go (linkIdIn (c .link))
+  where
+    go : (o : Option ℤ) → sameLinkIdsIn o none ≡ false
+    go none = refl
+    go (some z) = refl
+
+pub empty-clashes-not : (m : ℕ) (s : Standing) (o : Option Entry) → occupied s ≡ false → hasBoth clashing (entryOf m s) o ≡ false
+empty-clashes-not m Empty o e = refl
+empty-clashes-not m (Served c) o e = absurd (true-not-false refl e)
+empty-clashes-not m (Joined q a) o e = absurd (true-not-false refl e)
+
+pub apart-by-leg : (m n : ℕ) (s t : Standing) → eqb m n ≡ false → hasBoth clashing (entryOf m s) (entryOf n t) ≡ hasBoth sharing (entryOf m s) (entryOf n t)
+apart-by-leg m n Empty t e = refl
+apart-by-leg m n (Served c) Empty e = refl
+apart-by-leg m n (Served c) (Served d) e = rw e
+apart-by-leg m n (Served c) (Joined q b) e = rw e
+apart-by-leg m n (Joined p a) Empty e = refl
+apart-by-leg m n (Joined p a) (Served d) e = rw e
+apart-by-leg m n (Joined p a) (Joined q b) e = rw e
+
+pub clash-by-leg : (m n : ℕ) (s t : Standing) → eqb m n ≡ true → occupied s ≡ true → hasBoth clashing (entryOf m s) (entryOf n t) ≡ occupied t
+clash-by-leg m n Empty t e h = absurd (true-not-false h refl)
+clash-by-leg m n (Served c) Empty e h = refl
+clash-by-leg m n (Served c) (Served d) e h = rw e
+clash-by-leg m n (Served c) (Joined q b) e h = rw e
+clash-by-leg m n (Joined p a) Empty e h = refl
+clash-by-leg m n (Joined p a) (Served d) e h = rw e
+clash-by-leg m n (Joined p a) (Joined q b) e h = rw e
+
+-- ---- all rows
+
+pub fits-all : (rows : List Row) → all fits rows ≡ (all validRow rows && all validEntry (taken rows))
+unfolding fits
+fits-all rows = all-and validRow (λ (r : Row). noneOr validEntry (rowEntry r)) rows ∙ ap (λ (b : Bool). all validRow rows && b) (sym (all-pick rowEntry validEntry rows))
+
+pub clash-all : (rows : List Row) → distinct clash rows ≡ (distinct sameLegs (taken rows) && (distinct sameReferences (taken rows) && distinct sameLinkIds (taken rows)))
+unfolding clash
+clash-all rows =
+    sym (distinct-pick rowEntry clashing rows)
+    ∙ distinct-or sameLegs sharing (taken rows)
+    ∙ ap (λ (b : Bool). distinct sameLegs (taken rows) && b) (distinct-or sameReferences sameLinkIds (taken rows))
+
+-- what an entry asks of the entries, it asks of the rows
+partner-any : (rows : List Row) (n : ℕ) (k : Connection) → any (λ (b : Row). answered n k (rowEntry b)) rows ≡ true → validPartner (taken rows) n k ≡ true
+partner-any rows n (WithUser c) t = refl
+partner-any rows n (WithPartner p a) t = go (not (eqb n p)) (sym (any-and (not (eqb n p)) (λ (b : Row). has (answersTo n p a) (rowEntry b)) rows) ∙ t)
+  where
+    go : (b : Bool) → (b && any (λ (b : Row). has (answersTo n p a) (rowEntry b)) rows) ≡ true → (b && any (answersTo n p a) (taken rows)) ≡ true
+    go b t = rw (any-pick rowEntry (answersTo n p a) rows) t
+
+any-partner : (rows : List Row) (r : Row) (n : ℕ) (k : Connection) → List·Memᴰ r rows → validPartner (taken rows) n k ≡ true → any (λ (b : Row). answered n k (rowEntry b)) rows ≡ true
+any-partner rows r n (WithUser c) m t = any-of (λ (b : Row). true) m refl
+any-partner rows r n (WithPartner p a) m t =
+    any-and (not (eqb n p)) (λ (b : Row). has (answersTo n p a) (rowEntry b)) rows
+    ∙ ap (λ (b : Bool). not (eqb n p) && b) (sym (any-pick rowEntry (answersTo n p a) rows))
+    ∙ t
+
+one-paired : (rows : List Row) (r : Row) (o : Option Entry) → List·Memᴰ r rows →
+    any (λ (b : Row). noneOr (λ (e : Entry). answered (e .leg) (e .connection) (rowEntry b)) o) rows ≡ noneOr (partnered (taken rows)) o
+one-paired rows r none m = any-of (λ (b : Row). true) m refl
+one-paired rows r (some e) m = same-tests (λ t. partner-any rows (e .leg) (e .connection) t) (λ t. any-partner rows r (e .leg) (e .connection) m t)
+
+pub paired-all : (rows : List Row) → all (λ (a : Row). any (paired a) rows) rows ≡ all (partnered (taken rows)) (taken rows)
+unfolding paired
+paired-all rows =
+    all-same (λ (a : Row). any (paired a) rows) (λ (a : Row). noneOr (partnered (taken rows)) (rowEntry a)) rows (λ r m. one-paired rows r (rowEntry r) m)
+    ∙ sym (all-pick rowEntry (partnered (taken rows)) rows)
+
+-- ---- the whole, read off the first n rows where no other row is taken
+
+and-four : (a b c d e f g : Bool) → (a && (b && (c && (d && (e && (f && g)))))) ≡ (a && b && (c && (d && e) && (f && g)))
+and-four true true true d e f g = and-three d e (f && g)
+  where
+    and-three : (d e h : Bool) → (d && (e && h)) ≡ (d && e && h)
+    and-three true e h = refl
+    and-three false e h = refl
+and-four true true false d e f g = refl
+and-four true false c d e f g = refl
+and-four false b c d e f g = refl
+
+pub sound-by-rows : (rows : List Row) (n : ℕ) → taken (take n rows) ≡ taken rows →
+    soundRows rows
+    ≡ (all fits rows
+    && (distinct clash (take n rows)
+    && (leb (linkIds (taken rows)) 16 && all (λ (a : Row). any (paired a) (take n rows)) (take n rows))))
+unfolding soundRows soundEntries
+sound-by-rows rows n e = rw (fits-all rows, clash-all (take n rows), paired-all (take n rows), e) (and-four
+    (all validRow rows)
+    (all validEntry (taken rows))
+    (distinct sameLegs (taken rows))
+    (distinct sameReferences (taken rows))
+    (distinct sameLinkIds (taken rows))
+    (leb (linkIds (taken rows)) 16)
+    (all (partnered (taken rows)) (taken rows)))
+
+pub unfit-rows : (rows : List Row) → all fits rows ≡ false → soundRows rows ≡ false
+unfit-rows rows e = rw (sound-by-rows rows (length rows) (ap taken (take-length rows)), e)
+
+sub-one : (m : ℕ) → suc m - 1 ≡ m
+sub-one m = omega arith
+
+-- an empty row at the end does not matter
+pub taken-less : (rows : List Row) (n : ℕ) (d : Row) → 0 < n → n ≤ length rows → occupied (getD rows (n - 1) d .standing) ≡ false → taken (take (n - 1) rows) ≡ taken (take n rows)
+taken-less rows zero d h l e = absurd (omega arith)
+taken-less rows (suc m) d h l e =
+    simp sub-one
+    (sym (pick-skip rowEntry (take m rows) (getD rows m d) (ap (entryOf (getD rows m d .leg)) (empty-standing (getD rows m d .standing) (simp sub-one at e))))
+    ∙ ap taken (sym (take-suc rows m d (omega arith))))
+
+-- ---- counts
+
+occupied-has : (leg : ℕ) (s : Standing) → has (λ (e : Entry). true) (entryOf leg s) ≡ occupied s
+occupied-has leg Empty = refl
+occupied-has leg (Served c) = refl
+occupied-has leg (Joined p a) = refl
+
+pub tally-all : (rows : List Row) → tallyOf rows ≡ record { legs = length (keep takenRow rows); joined = length (keep joinedRow rows); links = length (keep linkedRow rows) }
+unfolding tallyOf
+tally-all rows =
+    let a = length-pick rowEntry rows ∙ ap (λ (l : List Row). length l) (keep-ext (λ (r : Row). has (λ (e : Entry). true) (rowEntry r)) takenRow rows (λ r. occupied-has (r .leg) (r .standing))) in
+    let b = length-keep-pick rowEntry (λ (e : Entry). isJoined (e .connection)) rows in
+    let k = length-keep-pick rowEntry linked rows in
+    rw (a, b, k)

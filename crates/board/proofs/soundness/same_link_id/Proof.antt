@@ -1,0 +1,14 @@
+use Rattle.board.proofs.soundness.same_link_id.Statement.{statement}
+use Rattle.board.proofs.soundness.same_link_id.Tie as tie
+use Rattle.board.proofs.soundness.same_link_id.Reads as reads
+use Rattle.board.proofs.soundness.same_link_id.Lts as lts
+use Rattle.octets.proofs.LinkIds.{sameLinkId-bits}
+
+-- src/soundness.rt:229:1
+returns : tie.Need-returns
+returns c =
+    let v = c .before .before .before .before .args in
+    sameLinkId-bits (v .a .0) (v .b .0) (c .before .before .struct-told .given .0 .1) (c .struct-told2 .given .0 .1)
+
+pub same-link-id-spec : {M : Type 1} → statement M
+same-link-id-spec = tie.close (tie.spec returns)
