@@ -36,7 +36,9 @@ fn u16_at(s: &[u8], at: usize) -> u16
     requires { ⌜ at + 2 ≤ length (now s) ⌝ }
     ensures { λ r. ⌜ r ≡ field at 2 (now (s .entry)) ⌝ }
 {
-    (s[at] as u16) * 256 + (s[at + 1] as u16)
+    let high = s[at];
+    let low = s[at + 1];
+    (high as u16) * 256 + (low as u16)
 }
 
 // The number in the four octets from a place on.
