@@ -1,3 +1,4 @@
+pub mod RecordLaws
 pub mod Decided
 pub mod Order
 pub mod Kept

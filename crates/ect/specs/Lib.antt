@@ -1,4 +1,5 @@
 pub mod EventRecords
+pub mod RecordValues
 pub mod Replies
 pub mod Pairing
 pub mod Serving

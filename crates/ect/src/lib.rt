@@ -1,4 +1,5 @@
 // The network side of Explicit Call Transfer for one access: the six events on a board.
+mod records;
 
 mod pairing;
 mod parties;
