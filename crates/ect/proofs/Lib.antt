@@ -9,5 +9,6 @@ pub mod Partner
 pub mod Errors
 pub mod WholeHistory
 pub mod Room
+pub mod ReplyLaws
 pub mod Situations
 pub mod Examples

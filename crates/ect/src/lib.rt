@@ -1,4 +1,5 @@
 // The network side of Explicit Call Transfer for one access: the six events on a board.
+mod replies;
 
 // Why an event is refused, in the order of the checks; document 01 numbers them from 1 to 11.
 pub enum Refusal {
