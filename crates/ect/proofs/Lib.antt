@@ -10,6 +10,7 @@ pub mod Partner
 pub mod Errors
 pub mod WholeHistory
 pub mod Room
+pub mod ReplyLaws
 pub mod Situations
 pub mod Examples
 pub mod PartyLaws

@@ -5,6 +5,7 @@ pub mod Pairing
 pub mod Serving
 pub mod Checks
 pub mod Step
+pub mod ReplyValues
 pub mod Book
 pub mod History
 pub mod Situations

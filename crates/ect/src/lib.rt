@@ -1,8 +1,8 @@
 // The network side of Explicit Call Transfer for one access: the six events on a board.
-mod records;
-
 mod pairing;
 mod parties;
+mod records;
+mod replies;
 
 // Why an event is refused, in the order of the checks; document 01 numbers them from 1 to 11.
 pub enum Refusal {
