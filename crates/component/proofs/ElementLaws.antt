@@ -8,16 +8,13 @@ use mathlib.Core.Bool.{Bool, true, false, not, _&&_, _||_, cond}
 use lib.ListN.{length, getD, take, drop, length-drop}
 use lib.Seq.{take-all}
 use lib.Dec.{eqb, leb, ltb}
+use Rattle.octets.proofs.Places.{rest}
 use Rattle.component.specs.declared.elements.FirstElement.{FirstElement}
 use Rattle.component.specs.declared.elements.FirstElement.the-variants as first
 use Rattle.component.specs.Elements.{Element, Bad, Whole, validHead, firstElement, constructed, wellFormed, siblings, wholeElements}
 use Rattle.component.specs.Readers.{elementOf, elementEnd, Found, checked}
 
 -- ---- parts of a slice
--- from k to the end
-pub rest : (k : ℕ) (s : List ℕ) → take (length s - k) (drop k s) ≡ drop k s
-rest k s = take-all (length s - k) (drop k s) (omega (arith, length-drop k s))
-
 drop-two : (n a b : ℕ) (s : List ℕ) → drop (n + 2) (a ∷ b ∷ s) ≡ drop n s
 drop-two n a b s =
     let e : n + 2 ≡ suc (suc n) = omega arith in

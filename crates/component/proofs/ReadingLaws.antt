@@ -24,7 +24,8 @@ use Rattle.component.specs.declared.values.Object.the-variants as object
 use Rattle.component.specs.Elements.{Element, wholeElements}
 use Rattle.component.specs.Reading.{oneOrTwo, integerIn, objectIn, after, ectObject, invokeReading, framedReading, reading}
 use Rattle.component.specs.Readers.{Found, IntegerRead, ObjectRead}
-use Rattle.component.proofs.ElementLaws.{rest, found, ends}
+use Rattle.component.proofs.ElementLaws.{found, ends}
+use Rattle.octets.proofs.Places.{rest}
 
 -- ---- an element as an integer
 first-one : (s : List ℕ) → 3 ≤ length s → take 1 (drop 2 s) ≡ getD s 2 0 ∷ []

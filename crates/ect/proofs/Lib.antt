@@ -1,17 +1,4 @@
-pub mod RecordLaws
-pub mod Decided
-pub mod Order
-pub mod Kept
-pub mod Rows
-pub mod Agreement
-pub mod Free
-pub mod Presence
-pub mod Partner
-pub mod Errors
-pub mod WholeHistory
-pub mod Room
-pub mod ReplyLaws
-pub mod Situations
-pub mod Examples
+-- Laws that the proofs of the code cite.
 pub mod PartyLaws
 pub mod PairingLaws
+pub mod ReplyLaws

@@ -14,7 +14,7 @@ use Rattle.board.specs.declared.Call.{Call}
 use Rattle.board.specs.declared.Party.{Party}
 use Rattle.board.specs.declared.Row.{Row}
 use Rattle.ect.proofs.PartyLaws.{noRow, party-in}
-use Rattle.ect.specs.Pairing.{verdict, heldWithIdle, activeWithDelivered}
+use Rattle.rules.specs.Pairing.{verdict, heldWithIdle, activeWithDelivered}
 use Rattle.ect.specs.Parties.{passes, partyIn}
 use Rattle.octets.proofs.Lists.{true-not-false, left, all-by, keep-mem}
 use Rattle.octets.proofs.Places.{place-cons, place-lowest}

@@ -16,7 +16,7 @@ use Rattle.board.specs.declared.Party.{Party}
 use Rattle.board.specs.declared.Row.{Row}
 use Rattle.board.specs.declared.Standing.{Standing}
 use Rattle.board.specs.declared.Standing.the-variants.{Empty, Served, Joined}
-use Rattle.ect.specs.Checks.{entryAt}
+use Rattle.rules.specs.Checks.{entryAt}
 use Rattle.ect.specs.Parties.{partyIn, standingParty}
 use Rattle.octets.proofs.Places.{pickOpt, pickAt}
 use Rattle.octets.specs.Lists.{find, placeFrom}

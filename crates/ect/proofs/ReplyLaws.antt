@@ -20,9 +20,9 @@ use Rattle.board.specs.Entries.{occupied}
 use Rattle.ect.specs.declared.replies.Out.{Out}
 use Rattle.ect.specs.declared.replies.Told.{Told}
 use Rattle.ect.specs.declared.replies.FarParty.{FarParty}
-use Rattle.ect.specs.Replies.{Number, ReplyRecord, Reply, Tell, Drop, Gone, recordOctets, octets, numberOfRow, numberAt, facility, transferredActive, answerTold, NamedFirst}
-use Rattle.ect.specs.Serving.{Transfer}
-use Rattle.ect.specs.Step.{serviceReplies}
+use Rattle.rules.specs.Replies.{Number, ReplyRecord, Reply, Tell, Drop, Gone, recordOctets, octets, numberOfRow, numberAt, facility, transferredActive, answerTold, NamedFirst}
+use Rattle.rules.specs.Serving.{Transfer}
+use Rattle.rules.specs.Step.{serviceReplies}
 use Rattle.ect.specs.ReplyValues.{written, Grown, Adds, Says, numberTold, Describes, transferRecords}
 
 pub same : (o : Out) → Grown o o []

@@ -1,13 +1,2 @@
-pub mod EventRecords
-pub mod RecordValues
-pub mod Replies
-pub mod Pairing
-pub mod Serving
-pub mod Checks
-pub mod Step
-pub mod ReplyValues
-pub mod Book
-pub mod History
-pub mod Situations
-pub mod Examples
 pub mod Parties
+pub mod ReplyValues

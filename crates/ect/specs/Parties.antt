@@ -7,7 +7,7 @@ use Rattle.board.specs.declared.Standing.the-variants.{Empty, Served, Joined}
 use Rattle.board.specs.declared.Row.{Row}
 use Rattle.board.specs.declared.Options.{Options}
 use Rattle.board.specs.declared.Party.{Party}
-use Rattle.ect.specs.Serving.{partnerFor}
+use Rattle.rules.specs.Serving.{partnerFor}
 
 abbrev pub standingParty : ℕ → Standing → Option Party
 standingParty leg Empty = none

@@ -11,7 +11,7 @@ use Rattle.board.specs.declared.Party.{Party}
 use Rattle.ect.specs.declared.replies.Out.{Out}
 use Rattle.ect.specs.declared.replies.Told.{Told}
 use Rattle.ect.specs.declared.replies.FarParty.{FarParty}
-use Rattle.ect.specs.Replies.{Number, numberAt, ReplyRecord, Reply, octets, NamedFirst, drops, told}
+use Rattle.rules.specs.Replies.{Number, numberAt, ReplyRecord, Reply, octets, NamedFirst, drops, told}
 
 -- the octets written so far
 abbrev pub written : Out → List ℕ

@@ -17,8 +17,8 @@ ghost use Rattle.octets.specs.Lists.{only, keep, placeFrom};
 ghost use Rattle.board.specs.States.{stateNumber, auxiliaryNumber, directionNumber, active, delivered, idle, held, outgoing};
 ghost use Rattle.board.specs.Entries.{taken, calls, foundParty};
 ghost use Rattle.board.specs.Lookup.{foundAt};
-ghost use Rattle.ect.specs.Pairing.{heldWithIdle, activeWithDelivered, verdict as verdictOf, pairs as pair};
-ghost use Rattle.ect.specs.Serving.{partnerFor};
+ghost use Rattle.rules.specs.Pairing.{heldWithIdle, activeWithDelivered, verdict as verdictOf, pairs as pair};
+ghost use Rattle.rules.specs.Serving.{partnerFor};
 ghost use Rattle.ect.specs.Parties.{hasPartner};
 
 // The numbers of ETS 300 102-1.

@@ -15,8 +15,8 @@ use octets::LinkId;
 ghost use mathlib.Core.Path.{_≡_};
 ghost use Rattle.octets.specs.Lists.{find as findIn};
 ghost use Rattle.board.specs.Entries.{taken, calls, rowEntry, foundEntry, foundParty};
-ghost use Rattle.ect.specs.Checks.{named as namedIn, entryAt};
-ghost use Rattle.ect.specs.Serving.{hasLinkId};
+ghost use Rattle.rules.specs.Checks.{named as namedIn, entryAt};
+ghost use Rattle.rules.specs.Serving.{hasLinkId};
 ghost use Rattle.ect.specs.Parties.{partyIn};
 
 // The party of a row with a call.

@@ -10,8 +10,8 @@ ghost use mathlib.Core.Option.{some};
 ghost use Prim.Native.Nat.{_+_, _≤_, _<_};
 ghost use lib.ListN.{length, drop};
 ghost use Rattle.octets.specs.Numbers.{two, four};
-ghost use Rattle.ect.specs.Replies.{Reply, Tell, Drop, Gone, markOnly, numberOfRow, told};
-ghost use Rattle.ect.specs.Replies.{facility, transferredActive};
+ghost use Rattle.rules.specs.Replies.{Reply, Tell, Drop, Gone, markOnly, numberOfRow, told};
+ghost use Rattle.rules.specs.Replies.{facility, transferredActive};
 ghost use Rattle.ect.specs.ReplyValues.{written, Grown, Adds, numberTold, transferRecords};
 
 const FACILITY: u8 = 0;

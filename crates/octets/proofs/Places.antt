@@ -1,5 +1,5 @@
 -- Laws of places in a list: the lowest place that passes a test, the element there, and what a loop that goes through the places has so far.
-use Prim.Native.Nat.{ℕ, zero, suc, _+_, _≤_, _<_, zero-le, suc-le-suc}
+use Prim.Native.Nat.{ℕ, zero, suc, _+_, _-_, _≤_, _<_, zero-le, suc-le-suc}
 use native.Mathlib.Nat.{le-of-suc-le-suc, not-suc-le-zero}
 use native.Mathlib.Numerals.{add-one}
 use native.Mathlib.Omega.{arith}
@@ -7,8 +7,8 @@ use mathlib.Core.Path.{_≡_, refl, sym, ap, ap₂, _∙_}
 use mathlib.Core.Bool.{Bool, true, false, _||_}
 use mathlib.Core.List.{List, [], _∷_, _++_, map}
 use mathlib.Core.Option.{Option, none, some, Option·map}
-use lib.ListN.{length, getD, set, take, drop, drop-of-length-le}
-use lib.Seq.{drop-cons}
+use lib.ListN.{length, getD, set, take, drop, drop-of-length-le, length-drop}
+use lib.Seq.{drop-cons, take-all}
 use Rattle.octets.specs.Lists.{any, orElse, find, consOpt, pick, placeFrom}
 use Rattle.octets.proofs.Lists.{true-not-false, testOpt}
 
@@ -193,3 +193,8 @@ module _ {A : Type 0} (f : A → A) where
   changed-all zero (x ∷ l) h = absurd (not-suc-le-zero h)
   changed-all (suc i) [] h = refl
   changed-all (suc i) (x ∷ l) h = ap (λ (r : List A). f x ∷ r) (changed-all i l (le-of-suc-le-suc h))
+
+-- ---- a part from a place to the end
+
+pub rest : {A : Type 0} (k : ℕ) (s : List A) → take (length s - k) (drop k s) ≡ drop k s
+rest k s = take-all (length s - k) (drop k s) (omega (arith, length-drop k s))

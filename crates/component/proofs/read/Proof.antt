@@ -4,7 +4,7 @@ use Rattle.component.proofs.read.Statement.{statement}
 use Rattle.component.proofs.read.Tie as tie
 use mathlib.Core.Path.{_∙_}
 use borrow.Author.Tests.{le-leb, lt-leb, eq-eqb, ne-eqb}
-use Rattle.component.proofs.ElementLaws.{rest}
+use Rattle.octets.proofs.Places.{rest}
 use Rattle.component.proofs.ReadingLaws.{no-tag, tagged, above}
 
 returns : tie.Need-returns

@@ -5,7 +5,7 @@ use Rattle.component.proofs.invoke.read_framed.Tie as tie
 use native.Mathlib.Omega.{arith}
 use mathlib.Core.Path.{sym, _∙_}
 use borrow.Author.Tests.{eq-eqb, ne-eqb}
-use Rattle.component.proofs.ElementLaws.{rest}
+use Rattle.octets.proofs.Places.{rest}
 use Rattle.component.proofs.ReadingLaws.{no-length, framed}
 
 returns : tie.Need-returns

@@ -1,6 +1,6 @@
 use mathlib.Core.Path.{sym, ap, _∙_}
 use Rattle.octets.proofs.Places.{told}
-use Rattle.ect.specs.Serving.{partnerFor}
+use Rattle.rules.specs.Serving.{partnerFor}
 use Rattle.ect.specs.Parties.{passes, partyIn}
 use Rattle.ect.proofs.PartyLaws.{party-none, party-some}
 use borrow.Author.Needs.{needs}

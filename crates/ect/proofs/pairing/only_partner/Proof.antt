@@ -6,7 +6,7 @@ use Rattle.octets.proofs.Places.{told, place-lowest}
 use Rattle.octets.specs.Lists.{placeFrom}
 use Rattle.board.proofs.Long.{board-long}
 use Rattle.board.proofs.Searches.{found-at}
-use Rattle.ect.specs.Serving.{partnerFor}
+use Rattle.rules.specs.Serving.{partnerFor}
 use Rattle.ect.specs.Parties.{hasPartner}
 use Rattle.ect.proofs.PartyLaws.{noRow}
 use Rattle.ect.proofs.PairingLaws.{only-nowhere, only-here, only-several}

@@ -1,4 +1,4 @@
-use Rattle.ect.specs.Pairing.{pairs}
+use Rattle.rules.specs.Pairing.{pairs}
 use borrow.Author.Needs.{needs}
 use Rattle.ect.proofs.pairing.pairs.Statement.{statement}
 use Rattle.ect.proofs.pairing.pairs.Tie as tie

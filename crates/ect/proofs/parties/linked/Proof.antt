@@ -6,7 +6,7 @@ use Rattle.octets.proofs.Places.{told}
 use Rattle.board.specs.declared.finding.Key.the-variants as key
 use Rattle.board.proofs.Long.{board-long}
 use Rattle.board.proofs.Searches.{party-by-linkId}
-use Rattle.ect.specs.Serving.{hasLinkId}
+use Rattle.rules.specs.Serving.{hasLinkId}
 use Rattle.ect.proofs.PartyLaws.{noRow, party-here, party-nowhere, row-below}
 use Rattle.ect.proofs.parties.linked.Statement.{statement}
 use Rattle.ect.proofs.parties.linked.Tie as tie

@@ -6,7 +6,7 @@ use Rattle.octets.proofs.Places.{told}
 use Rattle.board.specs.declared.finding.Key.the-variants as key
 use Rattle.board.proofs.Long.{board-long}
 use Rattle.board.proofs.Searches.{party-by-reference}
-use Rattle.ect.specs.Checks.{isNamed}
+use Rattle.rules.specs.Checks.{isNamed}
 use Rattle.ect.proofs.PartyLaws.{noRow, party-here, party-nowhere, row-below}
 use Rattle.ect.proofs.parties.named.Statement.{statement}
 use Rattle.ect.proofs.parties.named.Tie as tie

@@ -1,0 +1,308 @@
+-- Laws of event records in the code's terms: places of the whole record, and tests in the code's order. Assumes nothing.
+use Prim.Native.Nat.{ℕ, suc, _+_, _-_, _*_, _≤_, _<_}
+use native.Mathlib.Omega.{arith}
+use native.Mathlib.Numerals.{add-one}
+use mathlib.Core.Path.{_≡_, refl, sym, _∙_}
+use mathlib.Core.Bool.{Bool, true, false, not, _&&_, cond}
+use mathlib.Core.List.{List, [], _∷_}
+use lib.Dec.{eqb, leb}
+use lib.ListN.{length, getD, set, take, drop, length-drop, drop-of-length-le}
+use lib.Seq.{take-all, drop-cons, drop-drop, getD-drop, take-suc, take-suc-set}
+use borrow.Author.Tests.{eq-eqb, ne-eqb, le-leb, lt-leb, not-true, not-false}
+use Rattle.octets.specs.Lists.{all}
+use Rattle.octets.specs.Numbers.{numberOf}
+use Rattle.octets.specs.declared.CallReference.{CallReference}
+use Rattle.board.specs.declared.Direction.{Direction}
+use Rattle.board.specs.declared.CallState.{CallState}
+use Rattle.board.specs.declared.CallState.the-variants.{CallDelivered, Active}
+use Rattle.board.specs.declared.AuxiliaryState.{AuxiliaryState}
+use Rattle.board.specs.declared.AuxiliaryState.the-variants.{Idle, HoldRequest, CallHeld, RetrieveRequest}
+use Rattle.board.specs.States.{validReference}
+use Rattle.board.specs.Soundness.{zeros, validDigits}
+use Rattle.octets.proofs.Places.{rest}
+use Rattle.events.specs.declared.Refusal.{Refusal}
+use Rattle.events.specs.declared.Refusal.the-variants.{WrongLength, UnknownKind, FieldOutOfRange}
+use Rattle.events.specs.declared.records.RequestHead.{RequestHead}
+use Rattle.events.specs.declared.records.RequestHead.the-variants as head
+use Rattle.events.specs.EventRecords.{Request, Malformed, Open, Progress, Hold, Release, Facility, Answer, field, directionOf}
+use Rattle.events.specs.EventRecords.{openBody, progressBody, holdBody, facilityBody, ranged, sized, ofKind, request}
+use Rattle.events.specs.RecordValues.{isDigit, RecordRead}
+
+-- ---- a test of each octet, from place i on
+module _ (p : ℕ → Bool) (s : List ℕ) (i : ℕ) where
+  pub all-yes : i < length s → p (getD s i 0) ≡ true → all p (drop (i + 1) s) ≡ all p (drop i s)
+  all-yes h t = rw (drop-cons s i 0 h, t, add-one)
+
+  pub all-no : i < length s → p (getD s i 0) ≡ false → false ≡ all p (drop i s)
+  all-no h t = rw (drop-cons s i 0 h, t)
+
+  pub all-end : length s ≤ i → true ≡ all p (drop i s)
+  all-end h = rw (drop-of-length-le s h)
+
+-- ---- numbers, high octet first
+front-two : (s : List ℕ) → 2 ≤ length s → getD s 0 0 * 256 + getD s 1 0 ≡ numberOf (take 2 s)
+front-two [] h = absurd (omega arith)
+front-two (a ∷ []) h = absurd (omega arith)
+front-two (a ∷ b ∷ s) h = omega arith
+
+front-four : (s : List ℕ) → 4 ≤ length s → numberOf (take 2 s) * 65536 + numberOf (take 2 (drop 2 s)) ≡ numberOf (take 4 s)
+front-four [] h = absurd (omega arith)
+front-four (a ∷ []) h = absurd (omega arith)
+front-four (a ∷ b ∷ []) h = absurd (omega arith)
+front-four (a ∷ b ∷ d ∷ []) h = absurd (omega arith)
+front-four (a ∷ b ∷ d ∷ e ∷ s) h = omega arith
+
+pub two-at : (s : List ℕ) (i : ℕ) → i + 2 ≤ length s → getD s i 0 * 256 + getD s (i + 1) 0 ≡ field i 2 s
+two-at s i h =
+    let z : i + 0 ≡ i = omega arith in
+    rw (getD-drop i s 0 0, getD-drop i s 1 0, z) at (front-two (drop i s) (omega (arith, length-drop i s)))
+
+pub four-at : (s : List ℕ) (i : ℕ) → i + 4 ≤ length s → field i 2 s * 65536 + field (i + 2) 2 s ≡ field i 4 s
+four-at s i h = rw (drop-drop 2 i s) at (front-four (drop i s) (omega (arith, length-drop i s)))
+
+-- ---- 15 octets of digits
+module _ (n : ℕ) (ds : List ℕ) (l : length ds ≡ 15) where
+  pub too-many : 15 < n → false ≡ validDigits n ds
+  too-many h = rw (eq-eqb (length ds) 15 l, lt-leb n 15 h)
+
+  pub no-digits : n ≤ 15 → {v : Bool} → v ≡ all isDigit (take n ds) → not v ≡ true → false ≡ validDigits n ds
+  no-digits h e t = rw (eq-eqb (length ds) 15 l, le-leb n 15 h, sym e ∙ not-true _ t)
+
+  pub digits-then : n ≤ 15 → {v : Bool} → v ≡ all isDigit (take n ds) → not v ≡ false → {w : Bool} → w ≡ zeros (take (length ds - n) (drop n ds)) → w ≡ validDigits n ds
+  digits-then h e t f = f ∙ rw (rest n ds, eq-eqb (length ds) 15 l, le-leb n 15 h, sym e ∙ not-false _ t)
+
+-- ---- what a record is found to be
+malformed : {os : List ℕ} {q : Request} {c : Refusal} → q ≡ Malformed c → RecordRead os (head.Malformed c) q
+malformed e = record { is = sym e; whole = refl; within = omega arith; small = omega arith }
+
+of-length : (os : List ℕ) (n : ℕ) (q : Request) → length os ≡ suc n → sized n (drop 1 os) q ≡ ranged q
+of-length os n q l =
+    let e : length (drop 1 os) ≡ n = omega (arith, length-drop 1 os) in
+    rw (eq-eqb (length (drop 1 os)) n e)
+
+other-length : (os : List ℕ) (n : ℕ) (q : Request) → 0 < n → (length os ≡ suc n → ⊥) → RecordRead os (head.Malformed WrongLength) (sized n (drop 1 os) q)
+other-length os n q p h = malformed (rw (ne-eqb (length (drop 1 os)) n (λ (e : length (drop 1 os) ≡ n). h (omega (arith, length-drop 1 os)))))
+
+module _ (os : List ℕ) where
+  pub open-other-length : (length os ≡ 25 → ⊥) → RecordRead os (head.Malformed WrongLength) (ofKind 1 (drop 1 os))
+  open-other-length h = other-length os 24 (openBody (drop 1 os)) (omega arith) h
+
+  pub progress-other-length : (length os ≡ 4 → ⊥) → RecordRead os (head.Malformed WrongLength) (ofKind 2 (drop 1 os))
+  progress-other-length h = other-length os 3 (progressBody (field 0 2 (drop 1 os)) (getD (drop 1 os) 2 0)) (omega arith) h
+
+  pub hold-other-length : (length os ≡ 4 → ⊥) → RecordRead os (head.Malformed WrongLength) (ofKind 3 (drop 1 os))
+  hold-other-length h = other-length os 3 (holdBody (field 0 2 (drop 1 os)) (getD (drop 1 os) 2 0)) (omega arith) h
+
+  pub release-other-length : (length os ≡ 5 → ⊥) → RecordRead os (head.Malformed WrongLength) (ofKind 4 (drop 1 os))
+  release-other-length h = other-length os 4 (Release (field 0 4 (drop 1 os))) (omega arith) h
+
+  pub facility-other-length : (length os ≡ 36 → ⊥) → RecordRead os (head.Malformed WrongLength) (ofKind 5 (drop 1 os))
+  facility-other-length h = other-length os 35 (facilityBody (field 0 2 (drop 1 os)) (getD (drop 1 os) 2 0) (drop 3 (drop 1 os))) (omega arith) h
+
+  pub answer-other-length : (length os ≡ 5 → ⊥) → RecordRead os (head.Malformed WrongLength) (ofKind 6 (drop 1 os))
+  answer-other-length h = other-length os 4 (Answer (field 0 4 (drop 1 os))) (omega arith) h
+
+  -- ---- a leg alone
+  pub released : {n : ℕ} → length os ≡ 5 → n ≡ field 1 4 os → RecordRead os (head.Release n) (ofKind 4 (drop 1 os))
+  released l e = record { is = rw (e, of-length os 4 (Release (field 0 4 (drop 1 os))) l); whole = refl; within = omega arith; small = omega arith }
+
+  pub answered : {n : ℕ} → length os ≡ 5 → n ≡ field 1 4 os → RecordRead os (head.Answer n) (ofKind 6 (drop 1 os))
+  answered l e = record { is = rw (e, of-length os 4 (Answer (field 0 4 (drop 1 os))) l); whole = refl; within = omega arith; small = omega arith }
+
+-- ---- a record of n octets whose reference r is judged by v
+pub record Referenced (n : ℕ) (os : List ℕ) (r : ℕ) (v : Bool) : Type 0 where
+  pub long : length os ≡ n
+  pub value : r ≡ field 1 2 os
+  pub judged : v ≡ validReference r
+
+module _ {n : ℕ} {os : List ℕ} {r : ℕ} {v : Bool} (k : Referenced n os r v) where
+  wrong : not v ≡ true → validReference r ≡ false
+  wrong t = sym (k .judged) ∙ not-true _ t
+
+  right : not v ≡ false → validReference r ≡ true
+  right t = sym (k .judged) ∙ not-false _ t
+
+-- a request with a field outside its range
+record Refused (q : Request) : Type 0 where
+  is : ranged q ≡ Malformed FieldOutOfRange
+
+either : (b : Bool) {p q : Request} → Refused p → Refused q → Refused (cond b p q)
+either true e f = e
+either false e f = f
+
+unlisted : Refused (Malformed FieldOutOfRange)
+unlisted = record { is = refl }
+
+-- ---- Progress
+progress-is : {os : List ℕ} {r : ℕ} {v : Bool} → Referenced 4 os r v → ofKind 2 (drop 1 os) ≡ ranged (progressBody r (getD os 3 0))
+progress-is {os = []} k = absurd (omega (arith, k .long))
+progress-is {os = o ∷ b} k = of-length (o ∷ b) 3 (progressBody (field 0 2 b) (getD b 2 0)) (k .long) ∙ rw (k .value)
+
+module _ {os : List ℕ} {r : ℕ} {v : Bool} (k : Referenced 4 os r v) where
+  pub progress-reference : not v ≡ true → RecordRead os (head.Malformed FieldOutOfRange) (ofKind 2 (drop 1 os))
+  progress-reference t =
+      let p : (s : CallState) → Refused (Progress r s) = λ s. record { is = rw (wrong k t) } in
+      malformed (progress-is k ∙ either (eqb (getD os 3 0) 4) (p CallDelivered) (either (eqb (getD os 3 0) 10) (p Active) unlisted) .is)
+
+  progress-to : (s : CallState) → ofKind 2 (drop 1 os) ≡ ranged (Progress r s) → not v ≡ false → RecordRead os (head.Progress (record { 0 = r }) s) (ofKind 2 (drop 1 os))
+  progress-to s h t = record { is = sym (h ∙ rw (right k t)); whole = refl; within = omega arith; small = omega arith }
+
+  pub progress-delivered : not v ≡ false → getD os 3 0 ≡ 4 → RecordRead os (head.Progress (record { 0 = r }) CallDelivered) (ofKind 2 (drop 1 os))
+  progress-delivered t s = progress-to CallDelivered (progress-is k ∙ rw (eq-eqb (getD os 3 0) 4 s)) t
+
+  module _ (h : getD os 3 0 ≡ 4 → ⊥) where
+    pub progress-active : not v ≡ false → getD os 3 0 ≡ 10 → RecordRead os (head.Progress (record { 0 = r }) Active) (ofKind 2 (drop 1 os))
+    progress-active t s = progress-to Active (progress-is k ∙ rw (ne-eqb (getD os 3 0) 4 h, eq-eqb (getD os 3 0) 10 s)) t
+
+    pub progress-unlisted : (getD os 3 0 ≡ 10 → ⊥) → RecordRead os (head.Malformed FieldOutOfRange) (ofKind 2 (drop 1 os))
+    progress-unlisted i = malformed (progress-is k ∙ rw (ne-eqb (getD os 3 0) 4 h, ne-eqb (getD os 3 0) 10 i))
+
+-- ---- Hold
+hold-is : {os : List ℕ} {r : ℕ} {v : Bool} → Referenced 4 os r v → ofKind 3 (drop 1 os) ≡ ranged (holdBody r (getD os 3 0))
+hold-is {os = []} k = absurd (omega (arith, k .long))
+hold-is {os = o ∷ b} k = of-length (o ∷ b) 3 (holdBody (field 0 2 b) (getD b 2 0)) (k .long) ∙ rw (k .value)
+
+module _ {os : List ℕ} {r : ℕ} {v : Bool} (k : Referenced 4 os r v) where
+  pub hold-reference : not v ≡ true → RecordRead os (head.Malformed FieldOutOfRange) (ofKind 3 (drop 1 os))
+  hold-reference t =
+      let a = getD os 3 0 in
+      let p : (s : AuxiliaryState) → Refused (Hold r s) = λ s. record { is = rw (wrong k t) } in
+      malformed (hold-is k ∙ either (eqb a 0) (p Idle) (either (eqb a 1) (p HoldRequest) (either (eqb a 2) (p CallHeld) (either (eqb a 3) (p RetrieveRequest) unlisted))) .is)
+
+  hold-to : (a : AuxiliaryState) → ofKind 3 (drop 1 os) ≡ ranged (Hold r a) → not v ≡ false → RecordRead os (head.Hold (record { 0 = r }) a) (ofKind 3 (drop 1 os))
+  hold-to a h t = record { is = sym (h ∙ rw (right k t)); whole = refl; within = omega arith; small = omega arith }
+
+  pub hold-idle : not v ≡ false → getD os 3 0 ≡ 0 → RecordRead os (head.Hold (record { 0 = r }) Idle) (ofKind 3 (drop 1 os))
+  hold-idle t a = hold-to Idle (hold-is k ∙ rw (eq-eqb (getD os 3 0) 0 a)) t
+
+  module _ (h0 : getD os 3 0 ≡ 0 → ⊥) where
+    pub hold-requested : not v ≡ false → getD os 3 0 ≡ 1 → RecordRead os (head.Hold (record { 0 = r }) HoldRequest) (ofKind 3 (drop 1 os))
+    hold-requested t a = hold-to HoldRequest (hold-is k ∙ rw (ne-eqb (getD os 3 0) 0 h0, eq-eqb (getD os 3 0) 1 a)) t
+
+    module _ (h1 : getD os 3 0 ≡ 1 → ⊥) where
+      pub held : not v ≡ false → getD os 3 0 ≡ 2 → RecordRead os (head.Hold (record { 0 = r }) CallHeld) (ofKind 3 (drop 1 os))
+      held t a = hold-to CallHeld (hold-is k ∙ rw (ne-eqb (getD os 3 0) 0 h0, ne-eqb (getD os 3 0) 1 h1, eq-eqb (getD os 3 0) 2 a)) t
+
+      module _ (h2 : getD os 3 0 ≡ 2 → ⊥) where
+        pub retrieve-requested : not v ≡ false → getD os 3 0 ≡ 3 → RecordRead os (head.Hold (record { 0 = r }) RetrieveRequest) (ofKind 3 (drop 1 os))
+        retrieve-requested t a =
+            hold-to RetrieveRequest (hold-is k ∙ rw (ne-eqb (getD os 3 0) 0 h0, ne-eqb (getD os 3 0) 1 h1, ne-eqb (getD os 3 0) 2 h2, eq-eqb (getD os 3 0) 3 a)) t
+
+        pub hold-unlisted : (getD os 3 0 ≡ 3 → ⊥) → RecordRead os (head.Malformed FieldOutOfRange) (ofKind 3 (drop 1 os))
+        hold-unlisted h3 = malformed (hold-is k ∙ rw (ne-eqb (getD os 3 0) 0 h0, ne-eqb (getD os 3 0) 1 h1, ne-eqb (getD os 3 0) 2 h2, ne-eqb (getD os 3 0) 3 h3))
+
+-- ---- Facility
+facility-is : {os : List ℕ} {r : ℕ} {v : Bool} → Referenced 36 os r v → ofKind 5 (drop 1 os) ≡ ranged (facilityBody r (getD os 3 0) (drop 4 os))
+facility-is {os = []} k = absurd (omega (arith, k .long))
+facility-is {os = o ∷ b} k = of-length (o ∷ b) 35 (facilityBody (field 0 2 b) (getD b 2 0) (drop 3 b)) (k .long) ∙ rw (k .value)
+
+module _ {os : List ℕ} {r : ℕ} {v : Bool} (k : Referenced 36 os r v) where
+  pub facility-reference : not v ≡ true → RecordRead os (head.Malformed FieldOutOfRange) (ofKind 5 (drop 1 os))
+  facility-reference t =
+      let n = getD os 3 0 in
+      let p : Refused (Facility r (take n (drop 4 os))) = record { is = rw (wrong k t) } in
+      malformed (facility-is k ∙ either (leb 1 n && leb n 32 && zeros (drop n (drop 4 os))) p unlisted .is)
+
+  pub facility-empty : getD os 3 0 < 1 → RecordRead os (head.Malformed FieldOutOfRange) (ofKind 5 (drop 1 os))
+  facility-empty h = malformed (facility-is k ∙ rw (lt-leb 1 (getD os 3 0) h))
+
+  module _ (h1 : 1 ≤ getD os 3 0) where
+    pub facility-long : 32 < getD os 3 0 → RecordRead os (head.Malformed FieldOutOfRange) (ofKind 5 (drop 1 os))
+    facility-long h = malformed (facility-is k ∙ rw (le-leb 1 (getD os 3 0) h1, lt-leb (getD os 3 0) 32 h))
+
+    -- w says whether the fill octets are zeros
+    module _ (h2 : getD os 3 0 ≤ 32) {w : Bool} (g : w ≡ zeros (take (length os - (getD os 3 0 + 4)) (drop (getD os 3 0 + 4) os))) where
+      filled : {b : Bool} → w ≡ b → zeros (drop (getD os 3 0) (drop 4 os)) ≡ b
+      filled q =
+          let s : 4 + getD os 3 0 ≡ getD os 3 0 + 4 = omega arith in
+          rw (drop-drop (getD os 3 0) 4 os, s) (sym (rw (rest (getD os 3 0 + 4) os) at g) ∙ q)
+
+      pub facility-fill : not w ≡ true → RecordRead os (head.Malformed FieldOutOfRange) (ofKind 5 (drop 1 os))
+      facility-fill t = malformed (facility-is k ∙ rw (le-leb 1 (getD os 3 0) h1, le-leb (getD os 3 0) 32 h2, filled (not-true _ t)))
+
+      pub facility : not v ≡ false → not w ≡ false → RecordRead os (head.Facility (record { 0 = r }) (getD os 3 0)) (ofKind 5 (drop 1 os))
+      facility t u =
+          let l : length os ≡ 36 = k .long in
+          record {
+            is = sym (facility-is k ∙ rw (le-leb 1 (getD os 3 0) h1, le-leb (getD os 3 0) 32 h2, filled (not-false _ u), right k t));
+            whole = refl;
+            within = omega arith;
+            small = h2;
+          }
+
+-- ---- Open
+open-is : {os : List ℕ} {r : ℕ} {v : Bool} → Referenced 25 os r v
+    → ofKind 1 (drop 1 os) ≡ ranged (cond (leb (getD os 7 0) 1) (Open r (field 3 4 os) (directionOf (getD os 7 0)) (getD os 8 0) (getD os 9 0) (drop 10 os)) (Malformed FieldOutOfRange))
+open-is {os = []} k = absurd (omega (arith, k .long))
+open-is {os = o ∷ b} k = of-length (o ∷ b) 24 (openBody b) (k .long) ∙ rw (k .value)
+
+module _ {os : List ℕ} {r : ℕ} {v : Bool} (k : Referenced 25 os r v) where
+  pub open-reference : not v ≡ true → RecordRead os (head.Malformed FieldOutOfRange) (ofKind 1 (drop 1 os))
+  open-reference t =
+      let p : Refused (Open r (field 3 4 os) (directionOf (getD os 7 0)) (getD os 8 0) (getD os 9 0) (drop 10 os)) = record { is = rw (wrong k t) } in
+      malformed (open-is k ∙ either (leb (getD os 7 0) 1) p unlisted .is)
+
+  pub open-direction : 1 < getD os 7 0 → RecordRead os (head.Malformed FieldOutOfRange) (ofKind 1 (drop 1 os))
+  open-direction h = malformed (open-is k ∙ rw (lt-leb (getD os 7 0) 1 h))
+
+  module _ (t : not v ≡ false) (h1 : getD os 7 0 ≤ 1) where
+    pub open-presentation : 1 < getD os 8 0 → RecordRead os (head.Malformed FieldOutOfRange) (ofKind 1 (drop 1 os))
+    open-presentation h = malformed (open-is k ∙ rw (le-leb (getD os 7 0) 1 h1, right k t, lt-leb (getD os 8 0) 1 h))
+
+    -- w says whether the digits are right
+    module _ (h2 : getD os 8 0 ≤ 1) {w : Bool} (g : w ≡ validDigits (getD os 9 0) (take (length os - 10) (drop 10 os))) where
+      told : {b : Bool} → w ≡ b → validDigits (getD os 9 0) (drop 10 os) ≡ b
+      told q = sym (rw (rest 10 os) at g) ∙ q
+
+      pub open-digits : not w ≡ true → RecordRead os (head.Malformed FieldOutOfRange) (ofKind 1 (drop 1 os))
+      open-digits u = malformed (open-is k ∙ rw (le-leb (getD os 7 0) 1 h1, right k t, le-leb (getD os 8 0) 1 h2, told (not-true _ u)))
+
+      pub opened : not w ≡ false → {n : ℕ} → n ≡ field 3 4 os → {d : Direction} → d ≡ directionOf (getD os 7 0)
+          → RecordRead os (head.Open (record { 0 = r }) n d (getD os 8 0) (getD os 9 0)) (ofKind 1 (drop 1 os))
+      opened u p q = record {
+        is = sym (open-is k ∙ rw (p, q, le-leb (getD os 7 0) 1 h1, right k t, le-leb (getD os 8 0) 1 h2, told (not-false _ u)));
+        whole = sym (k .long);
+        within = omega arith;
+        small = omega arith;
+      }
+
+-- ---- by the record's kind
+pub no-kind : (os : List ℕ) → length os ≡ 0 → RecordRead os (head.Malformed WrongLength) (request os)
+unfolding request
+no-kind [] l = malformed refl
+no-kind (k ∷ b) l = absurd (omega arith)
+
+pub of-kind : (os : List ℕ) (k : ℕ) {r : RequestHead} → (length os ≡ 0 → ⊥) → getD os 0 0 ≡ k → RecordRead os r (ofKind k (drop 1 os)) → RecordRead os r (request os)
+unfolding request
+of-kind [] k h e f = absurd (h refl)
+of-kind (o ∷ b) k h e f = rw (← e) at f
+
+pub unknown-kind : (os : List ℕ) → (length os ≡ 0 → ⊥)
+    → (getD os 0 0 ≡ 1 → ⊥) → (getD os 0 0 ≡ 2 → ⊥) → (getD os 0 0 ≡ 3 → ⊥) → (getD os 0 0 ≡ 4 → ⊥) → (getD os 0 0 ≡ 5 → ⊥) → (getD os 0 0 ≡ 6 → ⊥)
+    → RecordRead os (head.Malformed UnknownKind) (request os)
+unfolding request
+unknown-kind [] h h1 h2 h3 h4 h5 h6 = absurd (h refl)
+unknown-kind (k ∷ b) h h1 h2 h3 h4 h5 h6 = malformed (rw (ne-eqb k 1 h1, ne-eqb k 2 h2, ne-eqb k 3 h3, ne-eqb k 4 h4, ne-eqb k 5 h5, ne-eqb k 6 h6))
+
+-- ---- what a caller takes out of a record
+module _ {os : List ℕ} {r : RequestHead} {q : Request} (f : RecordRead os r q) where
+  pub open-length : {n : CallReference} {l : ℕ} {d : Direction} {p m : ℕ} → r ≡ head.Open n l d p m → length os ≡ 25
+  open-length e = sym (rw e at (f .whole))
+
+  pub component-within : {n : CallReference} {m : ℕ} → r ≡ head.Facility n m → m + 4 ≤ length os
+  component-within e = rw e at (f .within)
+
+  pub component-small : {n : CallReference} {m : ℕ} → r ≡ head.Facility n m → m ≤ 32
+  component-small e = rw e at (f .small)
+
+-- the digits of an Open, which end the record
+pub digits-are : (os : List ℕ) → length os ≡ 25 → take 15 (drop 10 os) ≡ drop 10 os
+digits-are os l = take-all 15 (drop 10 os) (omega (arith, length-drop 10 os))
+
+-- one octet copied more
+pub copied : (os ds : List ℕ) (i : ℕ) → 25 ≤ length os → length ds ≡ 15 → i < 15 → take i ds ≡ take i (drop 10 os)
+    → take (i + 1) (set ds i (getD os (i + 10) 0)) ≡ take (i + 1) (drop 10 os)
+copied os ds i l m h e =
+    let s : 10 + i ≡ i + 10 = omega arith in
+    let d : i < length (drop 10 os) = omega (arith, length-drop 10 os) in
+    rw (add-one, take-suc-set ds i (getD os (i + 10) 0) (omega arith), take-suc (drop 10 os) i 0 d, e, getD-drop 10 os i 0, s)

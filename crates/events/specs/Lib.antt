@@ -1,0 +1,2 @@
+pub mod EventRecords
+pub mod RecordValues

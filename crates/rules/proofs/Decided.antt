@@ -1,0 +1,162 @@
+-- The ways that a decision can go, each with what is known there. What holds of every decision is proved by these cases.
+use Prim.Native.Nat.{ℕ}
+use mathlib.Core.Path.{_≡_, refl}
+use mathlib.Core.Bool.{_&&_, false, true, Bool, cond}
+use mathlib.Core.List.{List, List·Memᴰ}
+use mathlib.Core.Option.{Option, some, none}
+use lib.Dec.{leb, eqb}
+use lib.ListN.{length}
+use lib.IntN.{ℤ}
+use Rattle.board.specs.declared.Connection.{Connection}
+use Rattle.board.specs.declared.Connection.the-variants.{WithUser, WithPartner}
+use Rattle.board.specs.declared.Entry.{Entry}
+use Rattle.board.specs.declared.Party.{Party}
+use Rattle.board.specs.Entries.{isLinkId, hasLeg, hasReference, calls}
+use Rattle.board.specs.LinkIds.{freeLinkId}
+use Rattle.board.specs.States.{holdable}
+use Rattle.board.specs.declared.AuxiliaryState.{AuxiliaryState}
+use Rattle.board.specs.declared.CallState.{CallState}
+use Rattle.board.specs.declared.Direction.{Direction}
+use Rattle.board.specs.declared.Options.{Options}
+use Rattle.component.specs.Reading.{reading}
+use Rattle.component.specs.declared.Operation.{Operation}
+use Rattle.component.specs.declared.Operation.the-variants.{EctExecute, ExplicitEctExecute, EctLinkIdRequest}
+use Rattle.component.specs.declared.Reading.{Reading}
+use Rattle.component.specs.declared.Reading.the-variants.{Ignored, Rejected, Invoked}
+use Rattle.rules.specs.Checks.{decide, refusalNumber, Decision, Refuse, OpenLeg, opened, named, mayProgress, SetState, mayHold, SetAuxiliary, ReleaseLeg, ServeCall, EndAlerting, decideOpen, decideProgress, decideHold, entryAt, decideRelease, decideFacility, isNamed, decideAlerting, decideAnswer}
+use Rattle.events.specs.EventRecords.{Answer, Request, Open, Progress, Hold, Release, Facility, Malformed}
+use Rattle.rules.specs.Serving.{Service, Silent, Respond, assign, live, AssignLinkId, partnerFor, Transfer, execute, partyLinkId, executeExplicitly, error, newLinkId, linkIdRequest, perform, serve}
+use Rattle.rules.specs.Situations.{call}
+use Rattle.events.specs.declared.Refusal.{Refusal}
+use Rattle.events.specs.declared.Refusal.the-variants.{BufferTooSmall, UnsoundBoard, WrongLength, UnknownKind, FieldOutOfRange, LegOnBoard, ReferenceInUse, NoEmptyRow, NoSuchCall, NoSuchLeg, NotPermitted}
+use Rattle.octets.proofs.Lists.{keep-mem, only-mem, find-mem}
+use Rattle.octets.specs.Lists.{only, keep, find, any}
+use Rattle.octets.specs.declared.IntegerOctets.{IntegerOctets}
+use Rattle.octets.specs.declared.LinkId.{LinkId}
+use Rattle.events.specs.declared.Refusal.the-variants as refusal
+use Rattle.component.specs.declared.Answer.{Answer as ComponentAnswer}
+
+-- ---- what a component comes to
+
+module _ (opt : Options) (z : ℤ) (ps : List Party) (p : Party) where
+  pub data ComesTo : Service → Type 0 where
+    silent : ComesTo Silent
+    respond : (a : ComponentAnswer) → ComesTo (Respond a)
+    assigned : {y : ℤ} (i : IntegerOctets) → freeLinkId 16 z (live ps) ≡ some y → leb 16 (length (live ps)) ≡ false → ComesTo (AssignLinkId (record { 0 = y }) i)
+    transferred : {q : Party} (i : IntegerOctets) → List·Memᴰ q ps → partnerFor opt p q ≡ true → ComesTo (Transfer p q i)
+
+  execute-is : (i : IntegerOctets) (o : Option Party) → only (keep (partnerFor opt p) ps) ≡ o → ComesTo (execute p i o)
+  execute-is i none e = respond _
+  execute-is i (some q) e = let m = keep-mem (partnerFor opt p) ps (only-mem (keep (partnerFor opt p) ps) e) in transferred i (m .0) (m .1)
+
+  explicit-is : (i : IntegerOctets) (l : LinkId) (o : Option Party) → find (λ (q : Party). isLinkId (l .0) (partyLinkId q)) ps ≡ o → ComesTo (executeExplicitly opt p i o)
+  explicit-is i l none e = respond _
+  explicit-is i l (some q) e = go (partnerFor opt p q) refl
+    where
+      go : (b : Bool) → partnerFor opt p q ≡ b → ComesTo (cond b (Transfer p q i) (error i 7))
+      go true h = transferred i (find-mem (λ (q : Party). isLinkId (l .0) (partyLinkId q)) ps e .0) h
+      go false h = respond _
+
+  new-is : (i : IntegerOctets) → ComesTo (newLinkId (length (live ps)) i (freeLinkId 16 z (live ps)))
+  new-is i = go (leb 16 (length (live ps))) refl (freeLinkId 16 z (live ps)) refl
+    where
+      go : (b : Bool) → leb 16 (length (live ps)) ≡ b → (o : Option ℤ) → freeLinkId 16 z (live ps) ≡ o → ComesTo (cond b (error i 11) (assign i o))
+      go true h o e = respond _
+      go false h none e = respond _
+      go false h (some y) e = assigned i e h
+
+  request-is : (i : IntegerOctets) (o : Option ℤ) → ComesTo (linkIdRequest z (live ps) i o)
+  request-is i none = new-is i
+  request-is i (some y) = respond _
+
+  perform-is : (i : IntegerOctets) (op : Operation) → ComesTo (perform opt z ps p i op)
+  perform-is i EctExecute = execute-is i (only (keep (partnerFor opt p) ps)) refl
+  perform-is i (ExplicitEctExecute l) = explicit-is i l (find (λ (q : Party). isLinkId (l .0) (partyLinkId q)) ps) refl
+  perform-is i EctLinkIdRequest = request-is i (partyLinkId p)
+
+  pub served-is : (r : Reading) → ComesTo (serve opt z ps p r)
+  unfolding serve
+  served-is Ignored = silent
+  served-is (Rejected r) = respond _
+  served-is (Invoked i op) = go (eqb (opt .subscribed) 1)
+    where
+      go : (b : Bool) → ComesTo (cond b (perform opt z ps p i op) (error i 0))
+      go true = perform-is i op
+      go false = respond _
+
+-- ---- what is decided of a request
+
+pub refusal-not-0 : (c : Refusal) → eqb (refusalNumber c) 0 ≡ false
+refusal-not-0 refusal.BufferTooSmall = refl
+refusal-not-0 refusal.UnsoundBoard = refl
+refusal-not-0 refusal.WrongLength = refl
+refusal-not-0 refusal.UnknownKind = refl
+refusal-not-0 refusal.FieldOutOfRange = refl
+refusal-not-0 refusal.LegOnBoard = refl
+refusal-not-0 refusal.ReferenceInUse = refl
+refusal-not-0 refusal.NoEmptyRow = refl
+refusal-not-0 refusal.NoSuchCall = refl
+refusal-not-0 refusal.NoSuchLeg = refl
+refusal-not-0 refusal.NotPermitted = refl
+
+module _ (opt : Options) (z : ℤ) (w : Bool) (es : List Entry) where
+  pub data Decided : Request → Decision → Type 0 where
+    refuses : {q : Request} (c : Refusal) → Decided q (Refuse c)
+    opens-leg : {r l : ℕ} {d : Direction} {p n : ℕ} {ds : List ℕ} → any (hasLeg l) es ≡ false → any (hasReference r) es ≡ false → w ≡ false →
+        Decided (Open r l d p n ds) (OpenLeg l (opened r d) p n ds)
+    sets-state : {r : ℕ} {s : CallState} {p : Party} → named r es ≡ some p → mayProgress (p .call .state) s ≡ true → Decided (Progress r s) (SetState r s)
+    sets-auxiliary : {r : ℕ} {a : AuxiliaryState} {p : Party} → named r es ≡ some p → (holdable (p .call .state) && mayHold (p .call .auxiliary) a) ≡ true →
+        Decided (Hold r a) (SetAuxiliary r a)
+    releases : {l : ℕ} {e : Entry} → List·Memᴰ e es → hasLeg l e ≡ true → Decided (Release l) (ReleaseLeg e)
+    serves : {r : ℕ} {c : List ℕ} {p : Party} {v : Service} → List·Memᴰ p (calls es) → ComesTo opt z (calls es) p v → Decided (Facility r c) (ServeCall p v)
+    ends-alerting : {l p : ℕ} → Decided (Answer l) (EndAlerting l p)
+
+  open-is : (r l : ℕ) (d : Direction) (p n : ℕ) (ds : List ℕ) (x y v : Bool) → any (hasLeg l) es ≡ x → any (hasReference r) es ≡ y → w ≡ v →
+      Decided (Open r l d p n ds) (decideOpen x y v (OpenLeg l (opened r d) p n ds))
+  open-is r l d p n ds true y v e f g = refuses _
+  open-is r l d p n ds false true v e f g = refuses _
+  open-is r l d p n ds false false true e f g = refuses _
+  open-is r l d p n ds false false false e f g = opens-leg e f g
+
+  progress-is : (r : ℕ) (s : CallState) (o : Option Party) → named r es ≡ o → Decided (Progress r s) (decideProgress r s o)
+  progress-is r s none e = refuses _
+  progress-is r s (some p) e = go (mayProgress (p .call .state) s) refl
+    where
+      go : (b : Bool) → mayProgress (p .call .state) s ≡ b → Decided (Progress r s) (cond b (SetState r s) (Refuse refusal.NotPermitted))
+      go true h = sets-state e h
+      go false h = refuses _
+
+  hold-is : (r : ℕ) (a : AuxiliaryState) (o : Option Party) → named r es ≡ o → Decided (Hold r a) (decideHold r a o)
+  hold-is r a none e = refuses _
+  hold-is r a (some p) e = go (holdable (p .call .state) && mayHold (p .call .auxiliary) a) refl
+    where
+      go : (b : Bool) → (holdable (p .call .state) && mayHold (p .call .auxiliary) a) ≡ b → Decided (Hold r a) (cond b (SetAuxiliary r a) (Refuse refusal.NotPermitted))
+      go true h = sets-auxiliary e h
+      go false h = refuses _
+
+  release-is : (l : ℕ) (o : Option Entry) → entryAt l es ≡ o → Decided (Release l) (decideRelease o)
+  release-is l none e = refuses _
+  release-is l (some x) e = let m = find-mem (hasLeg l) es e in releases (m .0) (m .1)
+
+  facility-is : (r : ℕ) (c : List ℕ) (o : Option Party) → named r es ≡ o → Decided (Facility r c) (decideFacility opt z es c o)
+  facility-is r c none e = refuses _
+  facility-is r c (some p) e = serves (find-mem (isNamed r) (calls es) e .0) (served-is opt z (calls es) p (reading c))
+
+  alerting-is : (l : ℕ) (t : Connection) → Decided (Answer l) (decideAlerting l t)
+  alerting-is l (WithUser c) = refuses _
+  alerting-is l (WithPartner p true) = ends-alerting
+  alerting-is l (WithPartner p false) = refuses _
+
+  answer-is : (l : ℕ) (o : Option Entry) → Decided (Answer l) (decideAnswer l o)
+  answer-is l none = refuses _
+  answer-is l (some e) = alerting-is l (e .connection)
+
+  pub decided : (q : Request) → Decided q (decide opt z w es q)
+  unfolding decide
+  decided (Malformed c) = refuses c
+  decided (Open r l d p n ds) = open-is r l d p n ds (any (hasLeg l) es) (any (hasReference r) es) w refl refl refl
+  decided (Progress r s) = progress-is r s (named r es) refl
+  decided (Hold r a) = hold-is r a (named r es) refl
+  decided (Release l) = release-is l (entryAt l es) refl
+  decided (Facility r c) = facility-is r c (named r es) refl
+  decided (Answer l) = answer-is l (entryAt l es)

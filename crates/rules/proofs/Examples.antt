@@ -1,0 +1,29 @@
+-- The two lists beside the whole-history theorem, by computation.
+use mathlib.Core.Path.{refl}
+use Rattle.component.specs.Elements.{firstElement, siblings, wholeElements}
+use Rattle.component.specs.Reading.{reading, invokeReading, identifiedReading}
+use Rattle.board.specs.Soundness.{sound, soundRows, soundEntries, validRow}
+use Rattle.board.specs.Making.{fresh}
+use Rattle.board.specs.Changes.{changedRows, rowAfter}
+use Rattle.events.specs.EventRecords.{request}
+use Rattle.rules.specs.Pairing.{pairs}
+use Rattle.rules.specs.Serving.{serve}
+use Rattle.rules.specs.Checks.{decide}
+use Rattle.rules.specs.Step.{step, decision, rowsAfter, candidateAfter, boardAfter, replies}
+use Rattle.rules.specs.Book.{freshBook, bookRules, bookDecision, bookAfter, bookStep, entriesAfter, candidateMoves}
+use Rattle.rules.specs.History.{boardAt, bookAt, history, returns}
+use Rattle.rules.specs.Examples.{HistoryExamples}
+
+pub history-examples : HistoryExamples
+unfolding firstElement siblings wholeElements reading invokeReading identifiedReading sound soundRows soundEntries validRow fresh changedRows rowAfter request pairs serve decide step decision rowsAfter candidateAfter boardAfter replies freshBook bookRules bookDecision bookAfter bookStep entriesAfter candidateMoves boardAt bookAt history returns
+history-examples = record {
+  returned = refl;
+  history-is = refl;
+  transferred = refl;
+  transferred-book = refl;
+  not-transferred = refl;
+  calls-stay = refl;
+  answered = refl;
+  released = refl;
+  released-book = refl;
+}

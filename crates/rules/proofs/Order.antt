@@ -1,0 +1,94 @@
+-- What is decided of a request does not turn on the order of the entries.
+use Prim.Native.Nat.{_≤_, ℕ, zero, suc}
+use native.Mathlib.Nat.{le-trans}
+use mathlib.Core.Path.{_∙_, _≡_, refl, ap, ap₂}
+use mathlib.Core.Bool.{Bool}
+use mathlib.Core.List.{List}
+use mathlib.Core.Option.{Option, none, some}
+use lib.ListN.{length}
+use lib.IntN.{ℤ}
+use Rattle.board.proofs.SoundEntries.{Sound, refs-one, lids-one, legs-one}
+use Rattle.board.specs.Changes.{full}
+use Rattle.board.specs.declared.Connection.{Connection}
+use Rattle.board.specs.declared.Connection.the-variants.{WithUser, WithPartner}
+use Rattle.board.specs.declared.Entry.{Entry}
+use Rattle.board.specs.declared.Party.{Party}
+use Rattle.board.specs.Entries.{partyOf, isNumber, referenceOf, calls, hasReference, isLinkId, linkIdOf, hasLinkId, hasLeg}
+use Rattle.board.specs.LinkIds.{freeLinkId, unlessLive}
+use Rattle.board.specs.declared.Options.{Options}
+use Rattle.component.specs.Reading.{reading}
+use Rattle.component.specs.declared.Operation.{Operation}
+use Rattle.component.specs.declared.Operation.the-variants.{EctExecute, ExplicitEctExecute, EctLinkIdRequest}
+use Rattle.component.specs.declared.Reading.{Reading}
+use Rattle.component.specs.declared.Reading.the-variants.{Ignored, Rejected, Invoked}
+use Rattle.rules.specs.Checks.{named, isNamed, decide, entryAt, decideFacility, Decision, ServeCall, decideOpen, OpenLeg, opened, decideProgress, decideHold, decideRelease, decideAnswer}
+use Rattle.events.specs.EventRecords.{Request, Facility, Malformed, Open, Progress, Hold, Release, Answer}
+use Rattle.rules.specs.Serving.{partyLinkId, linkIdRequest, live, newLinkId, perform, execute, partnerFor, executeExplicitly, serve, ifSubscribed}
+use Rattle.octets.proofs.Lists.{testOpt, keep-pick-le, Perm, length-perm, pick-perm, any-perm, only-perm, keep-perm, find-perm}
+use Rattle.octets.specs.Lists.{keep, any}
+use Rattle.octets.specs.Numbers.{sameLinkId, nextLinkId}
+use Rattle.octets.specs.declared.IntegerOctets.{IntegerOctets}
+use Rattle.events.specs.declared.Refusal.the-variants as refusal
+
+-- ---- one call for a reference, one for a LinkId
+
+namedIs : (r n : ℕ) (t : Connection) → testOpt (isNamed r) (partyOf n t) ≡ isNumber r (referenceOf t)
+namedIs r n (WithUser c) = refl
+namedIs r n (WithPartner p a) = refl
+
+pub calls-one : (r : ℕ) {es : List Entry} → Sound es → length (keep (isNamed r) (calls es)) ≤ 1
+calls-one r {es} s =
+    le-trans (keep-pick-le (isNamed r) (λ (e : Entry). partyOf (e .leg) (e .connection)) (hasReference r) es (λ e. namedIs r (e .leg) (e .connection))) (refs-one r s)
+
+linkIs : (z : ℤ) (n : ℕ) (t : Connection) → testOpt (λ (q : Party). isLinkId z (partyLinkId q)) (partyOf n t) ≡ isLinkId z (linkIdOf t)
+linkIs z n (WithUser c) = refl
+linkIs z n (WithPartner p a) = refl
+
+links-one : (z : ℤ) {es : List Entry} → Sound es → length (keep (λ (q : Party). isLinkId z (partyLinkId q)) (calls es)) ≤ 1
+links-one z {es} s =
+    le-trans (keep-pick-le (λ (q : Party). isLinkId z (partyLinkId q)) (λ (e : Entry). partyOf (e .leg) (e .connection)) (hasLinkId z) es (λ e. linkIs z (e .leg) (e .connection))) (lids-one z s)
+
+-- ---- what is decided does not turn on the order
+
+freeLink-same : (u v : List ℤ) → ((z : ℤ) → any (sameLinkId z) u ≡ any (sameLinkId z) v) → (n : ℕ) (z : ℤ) → freeLinkId n z u ≡ freeLinkId n z v
+freeLink-same u v h zero z = refl
+freeLink-same u v h (suc n) z = ap₂ (λ (b : Bool) (o : Option ℤ). unlessLive b z o) (h z) (freeLink-same u v h n (nextLinkId z))
+
+request-perm : {l m : List Party} → Perm l m → (z : ℤ) (i : IntegerOctets) (o : Option ℤ) → linkIdRequest z (live l) i o ≡ linkIdRequest z (live m) i o
+request-perm {l} {m} p z i none =
+    ap₂ (λ (n : ℕ) (f : Option ℤ). newLinkId n i f)
+    (length-perm (pick-perm partyLinkId p))
+    (freeLink-same (live l) (live m) (λ y. any-perm (sameLinkId y) (pick-perm partyLinkId p)) 16 z)
+request-perm p z i (some y) = refl
+
+perform-perm : {l m : List Entry} → Sound l → Perm l m → (opt : Options) (z : ℤ) (p : Party) (i : IntegerOctets) (o : Operation) → perform opt z (calls l) p i o ≡ perform opt z (calls m) p i o
+perform-perm s h opt z p i EctExecute = ap (execute p i) (only-perm (keep-perm (partnerFor opt p) (pick-perm (λ (e : Entry). partyOf (e .leg) (e .connection)) h)))
+perform-perm s h opt z p i (ExplicitEctExecute y) = ap (executeExplicitly opt p i) (find-perm (λ (q : Party). isLinkId (y .0) (partyLinkId q)) (pick-perm (λ (e : Entry). partyOf (e .leg) (e .connection)) h) (links-one (y .0) s))
+perform-perm s h opt z p i EctLinkIdRequest = request-perm (pick-perm (λ (e : Entry). partyOf (e .leg) (e .connection)) h) z i (partyLinkId p)
+
+serve-perm : {l m : List Entry} → Sound l → Perm l m → (opt : Options) (z : ℤ) (p : Party) (r : Reading) → serve opt z (calls l) p r ≡ serve opt z (calls m) p r
+unfolding serve
+serve-perm v h opt z p Ignored = refl
+serve-perm v h opt z p (Rejected i) = refl
+serve-perm v h opt z p (Invoked i o) = ap (ifSubscribed opt i) (perform-perm v h opt z p i o)
+
+named-perm : {l m : List Entry} → Sound l → Perm l m → (r : ℕ) → named r l ≡ named r m
+named-perm v h r = find-perm (isNamed r) (pick-perm (λ (e : Entry). partyOf (e .leg) (e .connection)) h) (calls-one r v)
+
+entry-perm : {l m : List Entry} → Sound l → Perm l m → (n : ℕ) → entryAt n l ≡ entryAt n m
+entry-perm v h n = find-perm (hasLeg n) h (legs-one n v)
+
+service-perm : {l m : List Entry} → Sound l → Perm l m → (opt : Options) (z : ℤ) (c : List ℕ) (o : Option Party) → decideFacility opt z l c o ≡ decideFacility opt z m c o
+service-perm v h opt z c none = refl
+service-perm v h opt z c (some p) = ap (Decision.ServeCall p) (serve-perm v h opt z p (reading c))
+
+pub decide-perm : {l m : List Entry} → Sound l → Perm l m → (opt : Options) (z : ℤ) (full : Bool) (q : Request) → decide opt z full l q ≡ decide opt z full m q
+unfolding decide
+decide-perm v h opt z full (Malformed c) = refl
+decide-perm v h opt z full (Open r l d p n ds) =
+    ap₂ (λ (x y : Bool). decideOpen x y full (OpenLeg l (opened r d) p n ds)) (any-perm (hasLeg l) h) (any-perm (hasReference r) h)
+decide-perm v h opt z full (Progress r t) = ap (decideProgress r t) (named-perm v h r)
+decide-perm v h opt z full (Hold r x) = ap (decideHold r x) (named-perm v h r)
+decide-perm v h opt z full (Release l) = ap decideRelease (entry-perm v h l)
+decide-perm {l = es} {m = fs} v h opt z full (Facility r c) = service-perm v h opt z c (named r es) ∙ ap (decideFacility opt z fs c) (named-perm v h r)
+decide-perm v h opt z full (Answer l) = ap (decideAnswer l) (entry-perm v h l)

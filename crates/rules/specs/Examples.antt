@@ -1,0 +1,47 @@
+-- Two lists of events computed to their ends, beside the whole-history theorem: a transfer while the second party alerts;
+-- the same, then its answer, then a release.
+use Prim.Native.Nat.{ℕ}
+use mathlib.Core.Path.{_≡_}
+use mathlib.Core.Bool.{Bool, true, false}
+use mathlib.Core.List.{List, [], _∷_, _++_, map}
+use Rattle.octets.specs.Lists.{any}
+use Rattle.board.specs.declared.Connection.{Connection}
+use Rattle.board.specs.declared.Connection.the-variants.{WithUser, WithPartner}
+use Rattle.board.specs.declared.Entry.{Entry}
+use Rattle.board.specs.Entries.{entry, taken, isJoined}
+use Rattle.board.specs.Making.{fresh}
+use Rattle.rules.specs.Replies.{OtherFirst}
+use Rattle.rules.specs.Book.{freshBook}
+use Rattle.rules.specs.History.{Event, boardAt, bookAt, history, returns}
+use Rattle.rules.specs.Situations.{openRecord, progressRecord, holdRecord, facilityRecord, ectExecute}
+
+abbrev pub event : List ℕ → Event
+event os = record { octets = os; room = 128; order = OtherFirst }
+
+-- two calls, the first Active and held, the second Delivered; a second Open of leg 2, which is refused; EctExecute on the first
+abbrev pub transferList : List Event
+transferList =
+    map event
+    (openRecord 1 ∷ progressRecord 1 10 ∷ holdRecord 1 1 ∷ holdRecord 1 2 ∷ openRecord 2 ∷ openRecord 2 ∷ progressRecord 2 4 ∷ facilityRecord ectExecute 1 ∷ [])
+
+abbrev pub answerLeg : ℕ → Event
+answerLeg l = event (6 ∷ 0 ∷ 0 ∷ 0 ∷ l ∷ [])
+
+abbrev pub releaseLeg : ℕ → Event
+releaseLeg l = event (4 ∷ 0 ∷ 0 ∷ 0 ∷ l ∷ [])
+
+pub record HistoryExamples : Type 0 where
+  pub returned : returns (fresh 1 1 .board) transferList ≡ 0 ∷ 0 ∷ 0 ∷ 0 ∷ 0 ∷ 6 ∷ 0 ∷ 0 ∷ []
+  pub history-is :
+      history (freshBook 1 1) transferList
+      ≡ map event (openRecord 1 ∷ progressRecord 1 10 ∷ holdRecord 1 1 ∷ holdRecord 1 2 ∷ openRecord 2 ∷ progressRecord 2 4 ∷ facilityRecord ectExecute 1 ∷ [])
+  -- the first party is joined with the second, which alerts, on the board and in the book
+  pub transferred : taken (boardAt (fresh 1 1 .board) transferList .rows) ≡ entry 1 (WithPartner 2 false) ∷ entry 2 (WithPartner 1 true) ∷ []
+  pub transferred-book : bookAt (freshBook 1 1) transferList .entries ≡ entry 2 (WithPartner 1 true) ∷ entry 1 (WithPartner 2 false) ∷ []
+  -- without the alerting option the same list transfers nothing
+  pub not-transferred : returns (fresh 1 0 .board) transferList ≡ 0 ∷ 0 ∷ 0 ∷ 0 ∷ 0 ∷ 6 ∷ 0 ∷ 0 ∷ []
+  pub calls-stay : any (λ (e : Entry). isJoined (e .connection)) (taken (boardAt (fresh 1 0 .board) transferList .rows)) ≡ false
+  -- the answer ends the alerting, and the release of one ends both
+  pub answered : taken (boardAt (fresh 1 1 .board) (transferList ++ (answerLeg 2 ∷ [])) .rows) ≡ entry 1 (WithPartner 2 false) ∷ entry 2 (WithPartner 1 false) ∷ []
+  pub released : taken (boardAt (fresh 1 1 .board) (transferList ++ (answerLeg 2 ∷ releaseLeg 1 ∷ [])) .rows) ≡ []
+  pub released-book : bookAt (freshBook 1 1) (transferList ++ (answerLeg 2 ∷ releaseLeg 1 ∷ [])) .entries ≡ []

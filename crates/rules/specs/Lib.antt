@@ -1,0 +1,9 @@
+pub mod Replies
+pub mod Pairing
+pub mod Serving
+pub mod Checks
+pub mod Step
+pub mod Book
+pub mod History
+pub mod Situations
+pub mod Examples
