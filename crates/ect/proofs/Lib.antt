@@ -2,3 +2,4 @@
 pub mod PartyLaws
 pub mod PairingLaws
 pub mod ReplyLaws
+pub mod ServingLaws

@@ -14,11 +14,12 @@ use Rattle.board.specs.declared.Call.{Call}
 use Rattle.board.specs.declared.Party.{Party}
 use Rattle.board.specs.declared.Row.{Row}
 use Rattle.ect.proofs.PartyLaws.{noRow, party-in}
-use Rattle.rules.specs.Pairing.{verdict, heldWithIdle, activeWithDelivered}
-use Rattle.ect.specs.Parties.{passes, partyIn}
+use Rattle.ect.specs.Parties.{partyIn}
 use Rattle.octets.proofs.Lists.{true-not-false, left, all-by, keep-mem}
 use Rattle.octets.proofs.Places.{place-cons, place-lowest}
 use Rattle.octets.specs.Lists.{all, keep, pick, consIf, consOpt, only, placeFrom, orElse}
+use Rattle.octets.specs.Tests.{has}
+use Rattle.rules.specs.Pairing.{verdict, heldWithIdle, activeWithDelivered}
 use native.Mathlib.Numerals.{add-one}
 use Rattle.board.specs.declared.Found.the-variants.{At, Nothing}
 use Rattle.board.specs.declared.FoundParty.the-variants as found-party
@@ -50,7 +51,7 @@ module _ (c d : Call) where
 
 module _ (q : Party → Bool) where
   abbrev found : Row → Bool
-  found r = passes q (partyIn r)
+  found r = has q (partyIn r)
 
   keep-pick : (l : List Row) → keep q (pick partyIn l) ≡ pick partyIn (keep found l)
   keep-pick [] = refl
@@ -60,7 +61,7 @@ module _ (q : Party → Bool) where
       put true y e h = ap₂ (λ (r : List Party) (o : Option Party). consOpt o r) h (sym e)
       put false y e h = h
 
-      go : (o : Option Party) → partyIn x ≡ o → keep q (pick partyIn l) ≡ pick partyIn (keep found l) → keep q (consOpt o (pick partyIn l)) ≡ pick partyIn (consIf (passes q o) x (keep found l))
+      go : (o : Option Party) → partyIn x ≡ o → keep q (pick partyIn l) ≡ pick partyIn (keep found l) → keep q (consOpt o (pick partyIn l)) ≡ pick partyIn (consIf (has q o) x (keep found l))
       go none e h = h
       go (some y) e h = put (q y) y e h
 
@@ -72,12 +73,12 @@ module _ (q : Party → Bool) where
   only-first : (x : Row) (l : List Row) → found x ≡ true → all found l ≡ true → only (pick partyIn (x ∷ l)) ≡ one (partyIn x) l
   only-first x [] h k = go (partyIn x) h
     where
-      go : (o : Option Party) → passes q o ≡ true → only (consOpt o []) ≡ o
+      go : (o : Option Party) → has q o ≡ true → only (consOpt o []) ≡ o
       go none u = absurd (true-not-false u refl)
       go (some y) u = refl
   only-first x (z ∷ l) h k = go (partyIn x) (partyIn z) h (left (found z) _ k)
     where
-      go : (o u : Option Party) → passes q o ≡ true → passes q u ≡ true → only (consOpt o (consOpt u (pick partyIn l))) ≡ none
+      go : (o u : Option Party) → has q o ≡ true → has q u ≡ true → only (consOpt o (consOpt u (pick partyIn l))) ≡ none
       go none u a b = absurd (true-not-false a refl)
       go (some y) none a b = absurd (true-not-false b refl)
       go (some y) (some w) a b = refl

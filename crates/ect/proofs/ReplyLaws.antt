@@ -10,6 +10,7 @@ use lib.Dec.{eqb}
 use lib.ListN.{length, getD, take, drop, set, replicate, length-append, length-take, length-drop, length-replicate}
 use lib.Seq.{take-suc, drop-cons, set-at, length-take-le}
 use Rattle.octets.specs.Lists.{find}
+use Rattle.octets.specs.declared.CallReference.{CallReference}
 use Rattle.octets.specs.declared.IntegerOctets.{IntegerOctets}
 use Rattle.component.specs.declared.Answer.{Answer}
 use Rattle.component.specs.Answers.{answerOctets}
@@ -21,7 +22,7 @@ use Rattle.ect.specs.declared.replies.Out.{Out}
 use Rattle.ect.specs.declared.replies.Told.{Told}
 use Rattle.ect.specs.declared.replies.FarParty.{FarParty}
 use Rattle.rules.specs.Replies.{Number, ReplyRecord, Reply, Tell, Drop, Gone, recordOctets, octets, numberOfRow, numberAt, facility, transferredActive, answerTold, NamedFirst}
-use Rattle.rules.specs.Serving.{Transfer}
+use Rattle.rules.specs.declared.Service.the-variants.{Transfer}
 use Rattle.rules.specs.Step.{serviceReplies}
 use Rattle.ect.specs.ReplyValues.{written, Grown, Adds, Says, numberTold, Describes, transferRecords}
 
@@ -100,6 +101,6 @@ pub answered : {a b : Out} {t : Told} {n : ℕ} (rows : List Row) (l partner : �
     → Adds a b (Tell partner facility transferredActive (numberTold t) 0 ∷ []) n → Adds a b (answerTold rows l partner ∷ []) n
 answered rows l partner e p = rw e at p
 
-pub transfer : {rows : List Row} {p q : Party} {f g : FarParty} (i : IntegerOctets) → Describes rows p f → Describes rows q g
-    → transferRecords i f g ≡ serviceReplies NamedFirst rows (p .call .reference .0) (Transfer p q i)
-transfer i d e = rw (d .reference, d .leg, d .alerts, d .number, e .reference, e .leg, e .alerts, e .number)
+pub transfer : {rows : List Row} {p q : Party} {f g : FarParty} (r : CallReference) (i : IntegerOctets) → Describes rows p f → Describes rows q g
+    → transferRecords r i f g ≡ serviceReplies NamedFirst rows (r .0) (Transfer p q i)
+transfer r i d e = rw (d .reference, d .leg, d .alerts, d .number, e .reference, e .leg, e .alerts, e .number)

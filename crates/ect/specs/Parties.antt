@@ -2,6 +2,7 @@
 use Prim.Native.Nat.{ℕ}
 use mathlib.Core.Bool.{Bool, true, false}
 use mathlib.Core.Option.{Option, none, some}
+use Rattle.octets.specs.Tests.{has}
 use Rattle.board.specs.declared.Standing.{Standing}
 use Rattle.board.specs.declared.Standing.the-variants.{Empty, Served, Joined}
 use Rattle.board.specs.declared.Row.{Row}
@@ -17,10 +18,6 @@ standingParty leg (Joined p a) = none
 abbrev pub partyIn : Row → Option Party
 partyIn r = standingParty (r .leg) (r .standing)
 
-abbrev pub passes : (Party → Bool) → Option Party → Bool
-passes q none = false
-passes q (some p) = q p
-
 -- "other served call pairs with the named one": the row has such a call
 abbrev pub hasPartner : Options → Party → Row → Bool
-hasPartner o named row = passes (partnerFor o named) (partyIn row)
+hasPartner o named row = has (partnerFor o named) (partyIn row)

@@ -3,6 +3,7 @@ use Prim.Native.Nat.{ℕ, _+_}
 use mathlib.Core.Path.{_≡_}
 use mathlib.Core.List.{List, [], _∷_, _++_}
 use lib.ListN.{length, take}
+use Rattle.octets.specs.declared.CallReference.{CallReference}
 use Rattle.octets.specs.declared.IntegerOctets.{IntegerOctets}
 use Rattle.component.specs.declared.Answer.the-variants as answer
 use Rattle.board.specs.declared.Row.{Row}
@@ -49,7 +50,7 @@ transferTells named other =
     ∷ told (other .leg) (other .alerts) (named .alerts) (numberTold (named .number))
     ∷ []
 
--- the records of a transfer, the named one's Drop first
-abbrev pub transferRecords : IntegerOctets → FarParty → FarParty → List ReplyRecord
-transferRecords i named other =
-    Reply (named .reference .0) (answer.Result i) ∷ (drops NamedFirst (named .reference .0) (other .reference .0) ++ transferTells named other)
+-- the records of a transfer, the Reply on the reference r, the named one's Drop first
+abbrev pub transferRecords : CallReference → IntegerOctets → FarParty → FarParty → List ReplyRecord
+transferRecords r i named other =
+    Reply (r .0) (answer.Result i) ∷ (drops NamedFirst (named .reference .0) (other .reference .0) ++ transferTells named other)

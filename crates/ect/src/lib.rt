@@ -2,3 +2,4 @@
 mod pairing;
 mod parties;
 mod replies;
+mod serving;

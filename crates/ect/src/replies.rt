@@ -193,12 +193,12 @@ impl Out {
         self.push_tell(partner, FACILITY, TRANSFERRED_ACTIVE, number, 0)
     }
 
-    // The five records of a transfer.
-    pub fn push_transfer(self, identifier: IntegerOctets, named: FarParty, other: FarParty) -> Out
+    // The five records of a transfer, the Reply on the reference of the event.
+    pub fn push_transfer(self, reference: CallReference, identifier: IntegerOctets, named: FarParty, other: FarParty) -> Out
         requires { ⌜ self .len + 92 ≤ 128 ⌝ }
-        ensures { λ r. ⌜ Adds self r (transferRecords identifier named other) 92 ⌝ }
+        ensures { λ r. ⌜ Adds self r (transferRecords reference identifier named other) 92 ⌝ }
     {
-        self.push_reply(named.reference, Answer::Result(identifier))
+        self.push_reply(reference, Answer::Result(identifier))
             .push_drop(named.reference)
             .push_drop(other.reference)
             .push_told(named.leg, named.alerts, other.alerts, other.number)

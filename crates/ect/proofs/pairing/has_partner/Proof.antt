@@ -1,7 +1,8 @@
 use mathlib.Core.Path.{sym, ap, _∙_}
 use Rattle.octets.proofs.Places.{told}
+use Rattle.octets.specs.Tests.{has}
 use Rattle.rules.specs.Serving.{partnerFor}
-use Rattle.ect.specs.Parties.{passes, partyIn}
+use Rattle.ect.specs.Parties.{partyIn}
 use Rattle.ect.proofs.PartyLaws.{party-none, party-some}
 use borrow.Author.Needs.{needs}
 use Rattle.ect.proofs.pairing.has_partner.Statement.{statement}
@@ -17,13 +18,13 @@ enum-told : tie.Need-enum-told
 enum-told c = search needs
 
 returns : tie.Need-returns
-returns c = sym (ap (passes (partnerFor (c .before .before .before .args .options) (c .before .before .before .args .named))) (party-none (partyIn (c .before .before .before .args .row)) (told (c .before .before .party-of .ensures) (c .enum-told .given .1))))
+returns c = sym (ap (has (partnerFor (c .before .before .before .args .options) (c .before .before .before .args .named))) (party-none (partyIn (c .before .before .before .args .row)) (told (c .before .before .party-of .ensures) (c .enum-told .given .1))))
 
 is-partner-requires : tie.Need-is-partner-requires
 is-partner-requires c κs = search needs
 
 returns-2 : tie.Need-returns-2
-returns-2 c = c .is-partner .ensures ∙ sym (ap (passes (partnerFor (c .before .before .before .before .before .args .options) (c .before .before .before .before .before .args .named))) (party-some (partyIn (c .before .before .before .before .before .args .row)) (told (c .before .before .before .before .party-of .ensures) (c .before .before .other .given .1))))
+returns-2 c = c .is-partner .ensures ∙ sym (ap (has (partnerFor (c .before .before .before .before .before .args .options) (c .before .before .before .before .before .args .named))) (party-some (partyIn (c .before .before .before .before .before .args .row)) (told (c .before .before .before .before .party-of .ensures) (c .before .before .other .given .1))))
 
 pub has-partner-spec : {M : Type 1} → statement M
 has-partner-spec =
