@@ -2,6 +2,8 @@ use borrow.Author.Needs.{needs}
 use Rattle.board.proofs.soundness.sound_rows.Statement.{statement}
 use Rattle.board.proofs.soundness.sound_rows.Tie as tie
 use mathlib.Core.Path.{sym, ap, _∙_}
+use native.Mathlib.Omega.{arith}
+use Rattle.board.specs.Entries.{taken, linkIds}
 use borrow.Author.Tests.{le-leb, lt-leb}
 use Rattle.board.specs.declared.counting.Tally.{Tally}
 use Rattle.board.specs.Tallies.{tallyOf}
@@ -37,7 +39,7 @@ returns-3 c =
       sound-by-rows (c .before .before .before .before .before .before .before .before .args .rows) (c .before .before .before .before .before .used .result) (c .before .before .before .before .before .used .ensures .1),
       sym (c .before .before .before .before .before .before .before .rows-fit .ensures) ∙ c .before .before .before .before .before .before .if1 .taken,
       sym (c .before .before .before .before .rows-distinct .ensures) ∙ c .before .before .before .if2 .taken,
-      lt-leb _ _ (rw k at (c .if3 .taken)),
+      lt-leb (linkIds (taken (c .before .before .before .before .before .before .before .before .args .rows))) 16 (omega (arith, rw k at (c .if3 .taken))),
     )
 
 all-paired-requires : tie.Need-all-paired-requires
@@ -51,7 +53,7 @@ returns-4 c =
       sound-by-rows (c .before .before .before .before .before .before .before .before .before .args .rows) (c .before .before .before .before .before .before .used .result) (c .before .before .before .before .before .before .used .ensures .1),
       sym (c .before .before .before .before .before .before .before .before .rows-fit .ensures) ∙ c .before .before .before .before .before .before .before .if1 .taken,
       sym (c .before .before .before .before .before .rows-distinct .ensures) ∙ c .before .before .before .before .if2 .taken,
-      le-leb _ _ (rw k at (c .before .if3 .left)),
+      le-leb (linkIds (taken (c .before .before .before .before .before .before .before .before .before .args .rows))) 16 (omega (arith, rw k at (c .before .if3 .left))),
     )
     (c .all-paired .ensures)
 
