@@ -1,13 +1,14 @@
 -- The tests of one row, and of two, that the soundness of rows comes to (document 01, "The board": the paragraph that defines the term).
 -- Each is a test of Soundness put to the entries of rows; a row that is empty has none.
 use Prim.Native.Nat.{ℕ}
-use mathlib.Core.Bool.{Bool, true, false, _&&_, _||_, not}
-use mathlib.Core.Option.{Option, none, some}
+use mathlib.Core.Bool.{Bool, true, _&&_, _||_, not}
+use mathlib.Core.Option.{Option, none}
 use lib.Dec.{eqb}
 use Rattle.octets.specs.Tests.{has, noneOr, hasBoth}
+use Rattle.board.specs.declared.Call.{Call}
 use Rattle.board.specs.declared.Row.{Row}
-use Rattle.board.specs.Entries.{Connection, WithUser, WithPartner, Entry, rowEntry, occupied, linked, isJoined}
-use Rattle.board.specs.Soundness.{validRow, validEntry, sameLegs, sameReferences, sameLinkIds, answersTo}
+use Rattle.board.specs.Entries.{Connection, WithUser, WithPartner, Entry, rowEntry, occupied, linkIdIn, linked, isJoined}
+use Rattle.board.specs.Soundness.{validRow, validEntry, sameLegs, sameReferences, sameLinkIds, sameLinkIdsIn, answersTo}
 
 -- "fields obey this section and the digit rules below"
 unfoldable pub fits : Row → Bool
@@ -19,6 +20,10 @@ sharing e f = sameReferences e f || sameLinkIds e f
 
 abbrev pub clashing : Entry → Entry → Bool
 clashing e f = sameLegs e f || sharing e f
+
+-- of two calls that is
+abbrev pub callsShare : Call → Call → Bool
+callsShare c d = eqb (c .reference .0) (d .reference .0) || sameLinkIdsIn (linkIdIn (c .link)) (linkIdIn (d .link))
 
 unfoldable pub clash : Row → Row → Bool
 clash a b = hasBoth clashing (rowEntry a) (rowEntry b)

@@ -1,9 +1,9 @@
 // Soundness of a board and of rows, and the tests of one row and of two rows that it is made of.
 // An array of rows that is handed to a function is copied, so what tests each row against the others is one function.
 ghost use mathlib.Core.Path.{_≡_};
-ghost use mathlib.Core.Bool.{_||_, _&&_};
+ghost use mathlib.Core.Bool.{_&&_};
 ghost use Prim.Native.Nat.{ℕ, _≤_};
-ghost use lib.Dec.{eqb, leb};
+ghost use lib.Dec.{leb};
 ghost use lib.ListN.{take, drop};
 ghost use Rattle.octets.specs.Lists.{any, all, distinct};
 ghost use Rattle.octets.specs.Tests.{has, noneOr, hasBoth};
@@ -12,7 +12,7 @@ ghost use Rattle.board.specs.States.{sameAuxiliary, validDirection, hold
 ghost use Rattle.board.specs.Entries.{rowEntry, taken, linkIdIn};
 ghost use Rattle.board.specs.Soundness.{zeros, validDigits, validParty, validStanding, validEntry, sameLinkIdsIn};
 ghost use Rattle.board.specs.Soundness.{answersTo, soundRows, sound as soundBoard};
-ghost use Rattle.board.specs.RowTests.{fits, sharing, clash, paired, takenRow};
+ghost use Rattle.board.specs.RowTests.{fits, sharing, callsShare, clash, paired, takenRow};
 use crate::AuxiliaryState;
 use crate::Board;
 use crate::Call;
@@ -245,7 +245,7 @@ fn links_clash(a: OptionalLinkId, b: OptionalLinkId) -> bool
 }
 
 fn calls_clash(a: Call, b: Call) -> bool
-    ensures { λ r. ⌜ r ≡ (eqb (a .reference .0) (b .reference .0) || sameLinkIdsIn (linkIdIn (a .link)) (linkIdIn (b .link))) ⌝ }
+    ensures { λ r. ⌜ r ≡ callsShare a b ⌝ }
 {
     let k = a.link;
     let l = b.link;

@@ -1,5 +1,5 @@
 -- Laws of loops over a list, one step at a time, and of tests of what is picked from a list: they turn a loop over rows into a test of entries.
-use Prim.Native.Nat.{ℕ, zero, suc, _+_, _≤_, _<_, zero-le}
+use Prim.Native.Nat.{ℕ, suc, _+_, _≤_, _<_}
 use native.Mathlib.Numerals.{add-one}
 use native.Mathlib.Omega.{arith}
 use mathlib.Core.Path.{_≡_, refl, sym, ap, ap₂, _∙_}
@@ -7,7 +7,7 @@ use mathlib.Core.Bool.{Bool, true, false, _&&_, _||_, not}
 use mathlib.Core.List.{List, [], _∷_, _++_, List·Memᴰ, List·Memᴰ·head, List·Memᴰ·tail}
 use mathlib.Core.Option.{Option, none, some}
 use lib.ListN.{length, getD, take, drop, drop-of-length-le}
-use lib.Seq.{drop-cons, drop-length, length-take-le, getD-take}
+use lib.Seq.{drop-cons, length-take-le, getD-take}
 use Rattle.octets.specs.Lists.{any, all, consIf, keep, distinct, consOpt, pick}
 use Rattle.octets.specs.Tests.{has, noneOr, hasBoth, bit}
 use Rattle.octets.proofs.Lists.{any-ext}

@@ -1,17 +1,14 @@
 use borrow.Author.Needs.{needs}
-use Prim.Native.Nat.{ℕ, _≤_, _<_, _+_, _-_}
-use mathlib.Core.Path.{_≡_, refl, sym, ap, _∙_}
+use Prim.Native.Nat.{_≤_, _+_, _-_}
+use mathlib.Core.Path.{_≡_, sym, ap}
 use native.Mathlib.Omega.{arith}
-use lib.ListN.{length, drop}
+use lib.ListN.{length}
 use Rattle.octets.proofs.Loops.{Counting, step-at, past-end, count-start, count-step, count-end}
 use Rattle.board.specs.declared.counting.Tally.{Tally}
 use Rattle.board.specs.RowTests.{takenRow, joinedRow, linkedRow}
 use Rattle.board.proofs.Rows.{tally-all}
 use Rattle.board.proofs.counting.add_up.Statement.{statement}
 use Rattle.board.proofs.counting.add_up.Tie as tie
-use Rattle.board.proofs.counting.add_up.Reads as reads
-use Rattle.board.proofs.counting.add_up.Lts as lts
-use Rattle.board.proofs.counting.row_tally.Reads as row-tally-reads
 
 abbrev Inv-loop : tie.InvT-loop
 Inv-loop rows legs₀ joined₀ links₀ i₀ legs joined links i =
@@ -38,47 +35,36 @@ next c =
       count-step s _ (ap (λ (t : Tally). t .links) e) (v .3),
     )
 
--- src/counting.rt:59:5
 loop-holds : tie.Need-loop-holds Inv-loop μ-loop
 loop-holds c = (search needs, count-start _ _, count-start _ _, count-start _ _)
 
--- src/counting.rt:60:27
 mul-row-tally : tie.Need-mul-row-tally Inv-loop μ-loop
 mul-row-tally c = search needs
 
--- src/counting.rt:60:27
 array-copy-out-row-tally : tie.Need-array-copy-out-row-tally Inv-loop μ-loop
 array-copy-out-row-tally c = search needs
 
--- src/counting.rt:60:13
 row-tally-requires : tie.Need-row-tally-requires Inv-loop μ-loop
 row-tally-requires c κs = search needs
 
--- src/counting.rt:61:9
 add-legs : tie.Need-add-legs Inv-loop μ-loop
 add-legs c = let k = next (c .before) in omega arith
 
--- src/counting.rt:62:9
 add-joined : tie.Need-add-joined Inv-loop μ-loop
 add-joined c = let k = next (c .before .before) in omega arith
 
--- src/counting.rt:63:9
 add-links : tie.Need-add-links Inv-loop μ-loop
 add-links c = let k = next (c .before .before .before) in omega arith
 
--- src/counting.rt:59:9
 add-i : tie.Need-add-i Inv-loop μ-loop
 add-i c = search needs
 
--- src/counting.rt:59:5
 loop-less : tie.Need-loop-less Inv-loop μ-loop
 loop-less c = search needs
 
--- src/counting.rt:59:5
 loop-again : tie.Need-loop-again Inv-loop μ-loop
 loop-again c = let k = next (c .before .before .before) in (search needs, k .0, k .1, k .2)
 
--- src/counting.rt:53:1
 returns : tie.Need-returns Inv-loop μ-loop
 returns c =
     let l = long (c .before .before) in

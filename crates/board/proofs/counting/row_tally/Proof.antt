@@ -1,42 +1,31 @@
 use borrow.Author.Needs.{needs}
 use Rattle.board.proofs.counting.row_tally.Statement.{statement}
 use Rattle.board.proofs.counting.row_tally.Tie as tie
-use Rattle.board.proofs.counting.row_tally.Reads as reads
-use Rattle.board.proofs.counting.row_tally.Lts as lts
 
--- src/counting.rt:25:28
 enum-told : tie.Need-enum-told
 enum-told c = search needs
 
--- src/counting.rt:30:36
 enum-told-2 : tie.Need-enum-told-2
 enum-told-2 c = search needs
 
--- src/counting.rt:35:26
 enum-known-standing : tie.Need-enum-known-standing
 enum-known-standing c = search needs
 
--- src/counting.rt:38:43
 enum-told-3 : tie.Need-enum-told-3
 enum-told-3 c = search needs
 
--- src/counting.rt:43:47
 enum-told-4 : tie.Need-enum-told-4
 enum-told-4 c = search needs
 
--- src/counting.rt:20:1
 returns : tie.Need-returns
 returns c = rw (c .enum-told .given .1)
 
--- src/counting.rt:20:1
 returns-2 : tie.Need-returns-2
 returns-2 c = rw (c .enum-told2 .given .1)
 
--- src/counting.rt:20:1
 returns-3 : tie.Need-returns-3
 returns-3 c = rw (c .before .before .before .standing .given .1, c .enum-told3 .given .1)
 
--- src/counting.rt:20:1
 returns-4 : tie.Need-returns-4
 returns-4 c = rw (c .before .before .before .standing .given .1, c .enum-told4 .given .1)
 

@@ -1,6 +1,6 @@
 use borrow.Author.Needs.{needs}
-use Prim.Native.Nat.{ℕ, _≤_, _<_, _+_, _-_}
-use mathlib.Core.Path.{_≡_, refl, sym, ap, _∙_}
+use Prim.Native.Nat.{_≤_, _-_}
+use mathlib.Core.Path.{_≡_, refl, _∙_}
 use native.Mathlib.Omega.{arith}
 use mathlib.Core.Logic.{⊎-elim}
 use lib.ListN.{length, take, drop}
@@ -10,9 +10,6 @@ use Rattle.board.specs.RowTests.{paired}
 use Rattle.board.specs.declared.Row.{Row}
 use Rattle.board.proofs.soundness.all_paired.Statement.{statement}
 use Rattle.board.proofs.soundness.all_paired.Tie as tie
-use Rattle.board.proofs.soundness.all_paired.Reads as reads
-use Rattle.board.proofs.soundness.all_paired.Lts as lts
-use Rattle.board.proofs.soundness.rows_paired.Reads as rows-paired-reads
 
 abbrev Inv-loop2 : tie.InvT-loop2
 Inv-loop2 n rows i a j₀ j = (j ≤ n) × (any (paired a) (drop j (take n rows)) ≡ any (paired a) (take n rows))
@@ -30,81 +27,70 @@ abbrev μ-loop : tie.MeasureT-loop
 long : (c : tie.Start Inv-loop2 μ-loop2 Inv-loop μ-loop) → length (c .args .t1) ≡ 64
 long c = search needs
 
--- src/soundness.rt:345:5
 loop-holds : tie.Need-loop-holds Inv-loop2 μ-loop2 Inv-loop μ-loop
 loop-holds c = search needs
 
--- src/soundness.rt:346:17
 mul-a : tie.Need-mul-a Inv-loop2 μ-loop2 Inv-loop μ-loop
 mul-a c = search needs
 
--- src/soundness.rt:346:17
 array-copy-out-a : tie.Need-array-copy-out-a Inv-loop2 μ-loop2 Inv-loop μ-loop
 array-copy-out-a c = search needs
 
--- src/soundness.rt:348:9
 loop2-holds : tie.Need-loop2-holds Inv-loop2 μ-loop2 Inv-loop μ-loop
 loop2-holds c = (search needs, refl)
 
--- src/soundness.rt:349:31
 mul-rows-paired : tie.Need-mul-rows-paired Inv-loop2 μ-loop2 Inv-loop μ-loop
 mul-rows-paired c = search needs
 
--- src/soundness.rt:349:31
 array-copy-out-rows-paired : tie.Need-array-copy-out-rows-paired Inv-loop2 μ-loop2 Inv-loop μ-loop
 array-copy-out-rows-paired c = search needs
 
--- src/soundness.rt:349:16
 rows-paired-requires : tie.Need-rows-paired-requires Inv-loop2 μ-loop2 Inv-loop μ-loop
 rows-paired-requires c κs = search needs
 
--- src/soundness.rt:352:13
 add-j : tie.Need-add-j Inv-loop2 μ-loop2 Inv-loop μ-loop
 add-j c = search needs
 
--- src/soundness.rt:348:9
 loop2-less : tie.Need-loop2-less Inv-loop2 μ-loop2 Inv-loop μ-loop
 loop2-less c = search needs
 
--- src/soundness.rt:348:9
 loop2-again : tie.Need-loop2-again Inv-loop2 μ-loop2 Inv-loop μ-loop
 loop2-again c =
-    let l = long (c .before .before .before .before .before .before .before .before) in
-    (search needs, any-no (step-first (c .before .before .before .before .before .before .before .before .args .n) (c .before .before .before .before .before .before .before .before .args .t1) (c .before .before .before .before .loop2 .j) _ (omega arith) (omega arith)) _ (c .before .rows-paired .ensures) (c .if1 .left) ∙ c .before .before .before .before .loop2 .inv .1)
+    let s = c .before .before .before .before .before .before .before .before in
+    let l = long s in
+    (search needs, any-no (step-first (s .args .n) (s .args .t1) (c .before .before .before .before .loop2 .j) _ (omega arith) (omega arith)) _ (c .before .rows-paired .ensures) (c .if1 .left) ∙ c .before .before .before .before .loop2 .inv .1)
 
--- src/soundness.rt:355:13
 returns : tie.Need-returns Inv-loop2 μ-loop2 Inv-loop μ-loop
 returns c =
-    let l = long (c .before .before .before .before .before .before) in
-    let e = any-end (past-first (c .before .before .before .before .before .before .args .n) (c .before .before .before .before .before .before .args .t1) (c .before .before .loop2 .j) (omega arith) (omega arith)) _ ∙ c .before .before .loop2 .inv .1 in
-    all-no (step-first (c .before .before .before .before .before .before .args .n) (c .before .before .before .before .before .before .args .t1) (c .before .before .before .before .before .loop .i) _ (omega arith) (omega arith)) (λ (a : Row). any (paired a) (take (c .before .before .before .before .before .before .args .n) (c .before .before .before .before .before .before .args .t1))) e refl ∙ c .before .before .before .before .before .loop .inv .1
+    let s = c .before .before .before .before .before .before in
+    let l = long s in
+    let e = any-end (past-first (s .args .n) (s .args .t1) (c .before .before .loop2 .j) (omega arith) (omega arith)) _ ∙ c .before .before .loop2 .inv .1 in
+    all-no (step-first (s .args .n) (s .args .t1) (c .before .before .before .before .before .loop .i) _ (omega arith) (omega arith)) (λ (a : Row). any (paired a) (take (s .args .n) (s .args .t1))) e refl ∙ c .before .before .before .before .before .loop .inv .1
 
--- src/soundness.rt:345:9
 add-i : tie.Need-add-i Inv-loop2 μ-loop2 Inv-loop μ-loop
 add-i c = search needs
 
--- src/soundness.rt:345:5
 loop-less : tie.Need-loop-less Inv-loop2 μ-loop2 Inv-loop μ-loop
 loop-less c = search needs
 
--- src/soundness.rt:345:5
 loop-again : tie.Need-loop-again Inv-loop2 μ-loop2 Inv-loop μ-loop
 loop-again c =
-    let l = long (c .before .before .before .before .before .before) in (
+    let s = c .before .before .before .before .before .before in
+    let l = long s in (
       search needs,
       ⊎-elim
           (λ w. absurd (omega arith))
           (λ w.
-          let e = any-yes (step-first (c .before .before .before .before .before .before .args .n) (c .before .before .before .before .before .before .args .t1) (c .before .before .loop2 .j) _ (omega arith) (omega arith)) _ (w .2 .ensures) (w .3 .taken) ∙ c .before .before .loop2 .inv .1 in
-          all-yes (step-first (c .before .before .before .before .before .before .args .n) (c .before .before .before .before .before .before .args .t1) (c .before .before .before .before .before .loop .i) _ (omega arith) (omega arith)) (λ (a : Row). any (paired a) (take (c .before .before .before .before .before .before .args .n) (c .before .before .before .before .before .before .args .t1))) e refl ∙ c .before .before .before .before .before .loop .inv .1)
+          let e = any-yes (step-first (s .args .n) (s .args .t1) (c .before .before .loop2 .j) _ (omega arith) (omega arith)) _ (w .2 .ensures) (w .3 .taken) ∙ c .before .before .loop2 .inv .1 in
+          all-yes (step-first (s .args .n) (s .args .t1) (c .before .before .before .before .before .loop .i) _ (omega arith) (omega arith)) (λ (a : Row). any (paired a) (take (s .args .n) (s .args .t1))) e refl ∙ c .before .before .before .before .before .loop .inv .1)
           (c .before .loop2-test .came),
     )
 
--- src/soundness.rt:341:1
 returns-2 : tie.Need-returns-2 Inv-loop2 μ-loop2 Inv-loop μ-loop
 returns-2 c =
-    let l = long (c .before .before) in
-    all-end (past-first (c .before .before .args .n) (c .before .before .args .t1) (c .before .loop .i) (omega arith) (omega arith)) _ ∙ c .before .loop .inv .1
+    let s = c .before .before in
+    let l = long s in
+    all-end (past-first (s .args .n) (s .args .t1) (c .before .loop .i) (omega arith) (omega arith)) _ ∙ c .before .loop .inv .1
 
 pub all-paired-spec : {M : Type 1} → statement M
 all-paired-spec =

@@ -1,9 +1,6 @@
 use borrow.Author.Needs.{needs}
 use Rattle.board.proofs.soundness.empty_fits.Statement.{statement}
 use Rattle.board.proofs.soundness.empty_fits.Tie as tie
-use Rattle.board.proofs.soundness.empty_fits.Reads as reads
-use Rattle.board.proofs.soundness.empty_fits.Lts as lts
-use Rattle.board.proofs.soundness.no_digits.Reads as no-digits-reads
 use mathlib.Core.Path.{_≡_}
 use lib.ListN.{length}
 use borrow.Author.Tests.{eq-eqb, ne-eqb}
@@ -11,23 +8,18 @@ use borrow.Author.Tests.{eq-eqb, ne-eqb}
 long : (c : tie.Start) → length (c .args .row .digits) ≡ 15
 long c = search needs
 
--- src/soundness.rt:148:9
 returns : tie.Need-returns
 returns c = simp (ne-eqb _ _ (c .if1 .left))
 
--- src/soundness.rt:151:9
 returns-2 : tie.Need-returns-2
 returns-2 c = simp (eq-eqb _ _ (c .before .before .if1 .taken), ne-eqb _ _ (c .if2 .left))
 
--- src/soundness.rt:154:9
 returns-3 : tie.Need-returns-3
 returns-3 c = simp (eq-eqb _ _ (c .before .before .before .before .if1 .taken), eq-eqb _ _ (c .before .before .if2 .taken), ne-eqb _ _ (c .if3 .left))
 
--- src/soundness.rt:156:5
 no-digits-requires : tie.Need-no-digits-requires
 no-digits-requires c κs = search needs
 
--- src/soundness.rt:143:1
 returns-4 : tie.Need-returns-4
 returns-4 c = simp (eq-eqb _ _ (c .before .before .before .before .before .if1 .taken), eq-eqb _ _ (c .before .before .before .if2 .taken), eq-eqb _ _ (c .before .if3 .taken), eq-eqb _ _ (long (c .before .before .before .before .before .before .before .before))) (c .no-digits .ensures)
 

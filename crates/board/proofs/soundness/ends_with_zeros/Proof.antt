@@ -1,6 +1,6 @@
 use borrow.Author.Needs.{needs}
-use Prim.Native.Nat.{ℕ, _≤_, _<_, _+_, _-_}
-use mathlib.Core.Path.{_≡_, refl, sym, ap, _∙_}
+use Prim.Native.Nat.{_≤_, _-_}
+use mathlib.Core.Path.{_≡_, refl, _∙_}
 use native.Mathlib.Omega.{arith}
 use lib.ListN.{length, drop}
 use borrow.Author.Tests.{eq-eqb, ne-eqb}
@@ -8,8 +8,6 @@ use Rattle.octets.proofs.Loops.{step-at, past-end, all-yes, all-no, all-end}
 use Rattle.board.specs.Soundness.{zeros}
 use Rattle.board.proofs.soundness.ends_with_zeros.Statement.{statement}
 use Rattle.board.proofs.soundness.ends_with_zeros.Tie as tie
-use Rattle.board.proofs.soundness.ends_with_zeros.Reads as reads
-use Rattle.board.proofs.soundness.ends_with_zeros.Lts as lts
 
 abbrev Inv-loop : tie.InvT-loop
 Inv-loop n digits k₀ k = (n ≤ k) × (k ≤ 15) × (zeros (drop k digits) ≡ zeros (drop n digits))
@@ -20,39 +18,35 @@ abbrev μ-loop : tie.MeasureT-loop
 long : (c : tie.Start Inv-loop μ-loop) → length (c .args .t2) ≡ 15
 long c = search needs
 
--- src/soundness.rt:110:5
 loop-holds : tie.Need-loop-holds Inv-loop μ-loop
 loop-holds c = search needs
 
--- src/soundness.rt:111:12
 array-read-if1 : tie.Need-array-read-if1 Inv-loop μ-loop
 array-read-if1 c = search needs
 
--- src/soundness.rt:112:13
 returns : tie.Need-returns Inv-loop μ-loop
 returns c =
-    let l = long (c .before .before .before) in
-    all-no (step-at (c .before .before .before .args .t2) (c .before .before .loop .k) 0 (omega arith)) _ refl (ne-eqb _ _ (c .if1 .left)) ∙ c .before .before .loop .inv .2
+    let s = c .before .before .before in
+    let l = long s in
+    all-no (step-at (s .args .t2) (c .before .before .loop .k) 0 (omega arith)) _ refl (ne-eqb _ _ (c .if1 .left)) ∙ c .before .before .loop .inv .2
 
--- src/soundness.rt:110:9
 add-k : tie.Need-add-k Inv-loop μ-loop
 add-k c = search needs
 
--- src/soundness.rt:110:5
 loop-less : tie.Need-loop-less Inv-loop μ-loop
 loop-less c = search needs
 
--- src/soundness.rt:110:5
 loop-again : tie.Need-loop-again Inv-loop μ-loop
 loop-again c =
-    let l = long (c .before .before .before) in
-    (search needs, search needs, all-yes (step-at (c .before .before .before .args .t2) (c .before .before .loop .k) 0 (omega arith)) _ refl (eq-eqb _ _ (c .if1 .taken)) ∙ c .before .before .loop .inv .2)
+    let s = c .before .before .before in
+    let l = long s in
+    (search needs, search needs, all-yes (step-at (s .args .t2) (c .before .before .loop .k) 0 (omega arith)) _ refl (eq-eqb _ _ (c .if1 .taken)) ∙ c .before .before .loop .inv .2)
 
--- src/soundness.rt:106:1
 returns-2 : tie.Need-returns-2 Inv-loop μ-loop
 returns-2 c =
-    let l = long (c .before .before) in
-    all-end (past-end (c .before .before .args .t2) (c .before .loop .k) (omega arith)) _ ∙ c .before .loop .inv .2
+    let s = c .before .before in
+    let l = long s in
+    all-end (past-end (s .args .t2) (c .before .loop .k) (omega arith)) _ ∙ c .before .loop .inv .2
 
 pub ends-with-zeros-spec : {M : Type 1} → statement M
 ends-with-zeros-spec =

@@ -1,38 +1,28 @@
 use borrow.Author.Needs.{needs}
 use Rattle.board.proofs.soundness.is_idle.Statement.{statement}
 use Rattle.board.proofs.soundness.is_idle.Tie as tie
-use Rattle.board.proofs.soundness.is_idle.Reads as reads
-use Rattle.board.proofs.soundness.is_idle.Lts as lts
 
--- src/soundness.rt:54:33
 enum-told : tie.Need-enum-told
 enum-told c = search needs
 
--- src/soundness.rt:55:40
 enum-told-2 : tie.Need-enum-told-2
 enum-told-2 c = search needs
 
--- src/soundness.rt:56:37
 enum-told-3 : tie.Need-enum-told-3
 enum-told-3 c = search needs
 
--- src/soundness.rt:57:44
 enum-told-4 : tie.Need-enum-told-4
 enum-told-4 c = search needs
 
--- src/soundness.rt:50:1
 returns : tie.Need-returns
 returns c = rw (c .enum-told .given .1)
 
--- src/soundness.rt:50:1
 returns-2 : tie.Need-returns-2
 returns-2 c = rw (c .enum-told2 .given .1)
 
--- src/soundness.rt:50:1
 returns-3 : tie.Need-returns-3
 returns-3 c = rw (c .enum-told3 .given .1)
 
--- src/soundness.rt:50:1
 returns-4 : tie.Need-returns-4
 returns-4 c = rw (c .enum-told4 .given .1)
 

@@ -1,6 +1,6 @@
 use borrow.Author.Needs.{needs}
-use Prim.Native.Nat.{ℕ, _≤_, _<_, _+_, _-_}
-use mathlib.Core.Path.{_≡_, refl, sym, ap, _∙_}
+use Prim.Native.Nat.{ℕ, _≤_, _-_}
+use mathlib.Core.Path.{_≡_, refl, _∙_}
 use native.Mathlib.Omega.{arith}
 use mathlib.Core.Bool.{_&&_}
 use lib.Dec.{leb}
@@ -10,8 +10,6 @@ use Rattle.octets.specs.Lists.{all}
 use Rattle.octets.proofs.Loops.{step-first, past-first, all-yes, all-no, all-end}
 use Rattle.board.proofs.soundness.leads_with_digits.Statement.{statement}
 use Rattle.board.proofs.soundness.leads_with_digits.Tie as tie
-use Rattle.board.proofs.soundness.leads_with_digits.Reads as reads
-use Rattle.board.proofs.soundness.leads_with_digits.Lts as lts
 
 abbrev Inv-loop : tie.InvT-loop
 Inv-loop n digits k₀ k = (k ≤ n) × (all (λ (d : ℕ). leb 48 d && leb d 57) (drop k (take n digits)) ≡ all (λ (d : ℕ). leb 48 d && leb d 57) (take n digits))
@@ -22,45 +20,41 @@ abbrev μ-loop : tie.MeasureT-loop
 long : (c : tie.Start Inv-loop μ-loop) → length (c .args .t2) ≡ 15
 long c = search needs
 
--- src/soundness.rt:94:5
 loop-holds : tie.Need-loop-holds Inv-loop μ-loop
 loop-holds c = search needs
 
--- src/soundness.rt:95:17
 array-read-d : tie.Need-array-read-d Inv-loop μ-loop
 array-read-d c = search needs
 
--- src/soundness.rt:97:13
 returns : tie.Need-returns Inv-loop μ-loop
 returns c =
-    let l = long (c .before .before .before) in
-    all-no (step-first (c .before .before .before .args .n) (c .before .before .before .args .t2) (c .before .before .loop .k) 0 (omega arith) (omega arith)) (λ (d : ℕ). leb 48 d && leb d 57) refl (simp (lt-leb _ _ (c .if1 .taken))) ∙ c .before .before .loop .inv .1
+    let s = c .before .before .before in
+    let l = long s in
+    all-no (step-first (s .args .n) (s .args .t2) (c .before .before .loop .k) 0 (omega arith) (omega arith)) (λ (d : ℕ). leb 48 d && leb d 57) refl (simp (lt-leb _ _ (c .if1 .taken))) ∙ c .before .before .loop .inv .1
 
--- src/soundness.rt:100:13
 returns-2 : tie.Need-returns-2 Inv-loop μ-loop
 returns-2 c =
-    let l = long (c .before .before .before .before) in
-    all-no (step-first (c .before .before .before .before .args .n) (c .before .before .before .before .args .t2) (c .before .before .before .loop .k) 0 (omega arith) (omega arith)) (λ (d : ℕ). leb 48 d && leb d 57) refl (simp (le-leb _ _ (c .before .if1 .left), lt-leb _ _ (c .if2 .taken))) ∙ c .before .before .before .loop .inv .1
+    let s = c .before .before .before .before in
+    let l = long s in
+    all-no (step-first (s .args .n) (s .args .t2) (c .before .before .before .loop .k) 0 (omega arith) (omega arith)) (λ (d : ℕ). leb 48 d && leb d 57) refl (simp (le-leb _ _ (c .before .if1 .left), lt-leb _ _ (c .if2 .taken))) ∙ c .before .before .before .loop .inv .1
 
--- src/soundness.rt:94:9
 add-k : tie.Need-add-k Inv-loop μ-loop
 add-k c = search needs
 
--- src/soundness.rt:94:5
 loop-less : tie.Need-loop-less Inv-loop μ-loop
 loop-less c = search needs
 
--- src/soundness.rt:94:5
 loop-again : tie.Need-loop-again Inv-loop μ-loop
 loop-again c =
-    let l = long (c .before .before .before .before) in
-    (search needs, all-yes (step-first (c .before .before .before .before .args .n) (c .before .before .before .before .args .t2) (c .before .before .before .loop .k) 0 (omega arith) (omega arith)) (λ (d : ℕ). leb 48 d && leb d 57) refl (simp (le-leb _ _ (c .before .if1 .left), le-leb _ _ (c .if2 .left))) ∙ c .before .before .before .loop .inv .1)
+    let s = c .before .before .before .before in
+    let l = long s in
+    (search needs, all-yes (step-first (s .args .n) (s .args .t2) (c .before .before .before .loop .k) 0 (omega arith) (omega arith)) (λ (d : ℕ). leb 48 d && leb d 57) refl (simp (le-leb _ _ (c .before .if1 .left), le-leb _ _ (c .if2 .left))) ∙ c .before .before .before .loop .inv .1)
 
--- src/soundness.rt:90:1
 returns-3 : tie.Need-returns-3 Inv-loop μ-loop
 returns-3 c =
-    let l = long (c .before .before) in
-    all-end (past-first (c .before .before .args .n) (c .before .before .args .t2) (c .before .loop .k) (omega arith) (omega arith)) _ ∙ c .before .loop .inv .1
+    let s = c .before .before in
+    let l = long s in
+    all-end (past-first (s .args .n) (s .args .t2) (c .before .loop .k) (omega arith) (omega arith)) _ ∙ c .before .loop .inv .1
 
 pub leads-with-digits-spec : {M : Type 1} → statement M
 leads-with-digits-spec =

@@ -1,45 +1,34 @@
 use borrow.Author.Needs.{needs}
 use Rattle.board.proofs.soundness.row_answers.Statement.{statement}
 use Rattle.board.proofs.soundness.row_answers.Tie as tie
-use Rattle.board.proofs.soundness.row_answers.Reads as reads
-use Rattle.board.proofs.soundness.row_answers.Lts as lts
 use mathlib.Core.Path.{sym}
 use Rattle.board.proofs.Rows.{no-answer}
 use borrow.Author.Tests.{eq-eqb, ne-eqb}
 
--- src/soundness.rt:307:9
 returns : tie.Need-returns
 returns c = sym (no-answer _ _ _ _ (c .before .before .args .row .standing) (ne-eqb _ _ (c .if1 .left)))
 
--- src/soundness.rt:310:28
 enum-told : tie.Need-enum-told
 enum-told c = search needs
 
--- src/soundness.rt:311:32
 enum-told-2 : tie.Need-enum-told-2
 enum-told-2 c = search needs
 
--- src/soundness.rt:313:22
 enum-known-standing : tie.Need-enum-known-standing
 enum-known-standing c = search needs
 
--- src/soundness.rt:317:17
 returns-2 : tie.Need-returns-2
 returns-2 c = simp (c .before .before .standing .given .1, eq-eqb _ _ (c .before .before .before .before .if1 .taken), ne-eqb _ _ (c .if2 .left))
 
--- src/soundness.rt:302:1
 returns-3 : tie.Need-returns-3
 returns-3 c = search needs
 
--- src/soundness.rt:302:1
 returns-4 : tie.Need-returns-4
 returns-4 c = simp (c .enum-told2 .given .1, eq-eqb _ _ (c .before .before .if1 .taken))
 
--- src/soundness.rt:302:1
 returns-5 : tie.Need-returns-5
 returns-5 c = simp (c .before .before .before .standing .given .1, eq-eqb _ _ (c .before .before .before .before .before .if1 .taken), eq-eqb _ _ (c .before .if2 .taken), c .if3 .taken)
 
--- src/soundness.rt:302:1
 returns-6 : tie.Need-returns-6
 returns-6 c = simp (c .before .before .before .standing .given .1, eq-eqb _ _ (c .before .before .before .before .before .if1 .taken), eq-eqb _ _ (c .before .if2 .taken), c .if3 .left)
 

@@ -5,20 +5,13 @@ use Rattle.board.proofs.Rows.{apart-by-leg, clash-by-leg, empty-clashes
 use borrow.Author.Needs.{needs}
 use Rattle.board.proofs.soundness.rows_clash.Statement.{statement}
 use Rattle.board.proofs.soundness.rows_clash.Tie as tie
-use Rattle.board.proofs.soundness.rows_clash.Reads as reads
-use Rattle.board.proofs.soundness.rows_clash.Lts as lts
-use Rattle.board.proofs.soundness.is_taken.Reads as is-taken-reads
-use Rattle.board.proofs.soundness.standings_clash.Reads as standings-clash-reads
 
--- src/soundness.rt:279:12
 is-taken-requires : tie.Need-is-taken-requires
 is-taken-requires c κs = search needs
 
--- src/soundness.rt:280:13
 is-taken-requires-2 : tie.Need-is-taken-requires-2
 is-taken-requires-2 c κs = search needs
 
--- src/soundness.rt:280:13
 returns : tie.Need-returns
 unfolding clash
 returns c =
@@ -26,18 +19,15 @@ returns c =
     c .is-taken2 .ensures
     ∙ sym (clash-by-leg _ _ (v .a .standing) (v .b .standing) (eq-eqb _ _ (c .before .before .before .if1 .taken)) (sym (c .before .before .is-taken .ensures) ∙ c .before .if2 .taken))
 
--- src/soundness.rt:282:9
 returns-2 : tie.Need-returns-2
 unfolding clash
 returns-2 c =
     let v = c .before .before .before .before .before .args in
     sym (empty-clashes-not _ (v .a .standing) _ (sym (c .before .is-taken .ensures) ∙ c .if2 .left))
 
--- src/soundness.rt:284:5
 standings-clash-requires : tie.Need-standings-clash-requires
 standings-clash-requires c κs = search needs
 
--- src/soundness.rt:275:1
 returns-3 : tie.Need-returns-3
 unfolding clash
 returns-3 c =

@@ -1,6 +1,6 @@
 use borrow.Author.Needs.{needs}
-use Prim.Native.Nat.{ℕ, _≤_, _<_, _+_, _-_}
-use mathlib.Core.Path.{_≡_, refl, sym, ap, _∙_}
+use Prim.Native.Nat.{_≤_, _<_, _+_, _-_}
+use mathlib.Core.Path.{_≡_, refl, _∙_}
 use native.Mathlib.Omega.{arith}
 use lib.ListN.{length, take, drop}
 use Rattle.octets.specs.Lists.{any, distinct}
@@ -8,12 +8,9 @@ use Rattle.octets.proofs.Loops.{step-first, past-first, any-yes, any-no, any-en
 use Rattle.board.specs.RowTests.{clash}
 use Rattle.board.proofs.soundness.rows_distinct.Statement.{statement}
 use Rattle.board.proofs.soundness.rows_distinct.Tie as tie
-use Rattle.board.proofs.soundness.rows_distinct.Reads as reads
-use Rattle.board.proofs.soundness.rows_distinct.Lts as lts
-use Rattle.board.proofs.soundness.rows_clash.Reads as rows-clash-reads
 
 abbrev Inv-loop2 : tie.InvT-loop2
-Inv-loop2 n rows i a j₀ j = (i < j) × (j ≤ n) × (any (clash a) (drop j (take n rows)) ≡ any (clash a) (drop (i + 1) (take n rows)))
+Inv-loop2 n rows i a j₀ j = (i < j) × (any (clash a) (drop j (take n rows)) ≡ any (clash a) (drop (i + 1) (take n rows)))
 
 abbrev μ-loop2 : tie.MeasureT-loop2
 μ-loop2 n rows i a j₀ j = n - j
@@ -27,79 +24,67 @@ abbrev μ-loop : tie.MeasureT-loop
 long : (c : tie.Start Inv-loop2 μ-loop2 Inv-loop μ-loop) → length (c .args .t1) ≡ 64
 long c = search needs
 
--- src/soundness.rt:290:5
 loop-holds : tie.Need-loop-holds Inv-loop2 μ-loop2 Inv-loop μ-loop
 loop-holds c = search needs
 
--- src/soundness.rt:291:17
 mul-a : tie.Need-mul-a Inv-loop2 μ-loop2 Inv-loop μ-loop
 mul-a c = search needs
 
--- src/soundness.rt:291:17
 array-copy-out-a : tie.Need-array-copy-out-a Inv-loop2 μ-loop2 Inv-loop μ-loop
 array-copy-out-a c = search needs
 
--- src/soundness.rt:292:18
 add-j : tie.Need-add-j Inv-loop2 μ-loop2 Inv-loop μ-loop
 add-j c = search needs
 
--- src/soundness.rt:292:9
 loop2-holds : tie.Need-loop2-holds Inv-loop2 μ-loop2 Inv-loop μ-loop
-loop2-holds c = (search needs, search needs, refl)
+loop2-holds c = (search needs, refl)
 
--- src/soundness.rt:293:30
 mul-rows-clash : tie.Need-mul-rows-clash Inv-loop2 μ-loop2 Inv-loop μ-loop
 mul-rows-clash c = search needs
 
--- src/soundness.rt:293:30
 array-copy-out-rows-clash : tie.Need-array-copy-out-rows-clash Inv-loop2 μ-loop2 Inv-loop μ-loop
 array-copy-out-rows-clash c = search needs
 
--- src/soundness.rt:293:16
 rows-clash-requires : tie.Need-rows-clash-requires Inv-loop2 μ-loop2 Inv-loop μ-loop
 rows-clash-requires c κs = search needs
 
--- src/soundness.rt:294:17
 returns : tie.Need-returns Inv-loop2 μ-loop2 Inv-loop μ-loop
 returns c =
-    let l = long (c .before .before .before .before .before .before .before .before) in
-    let e = any-yes (step-first (c .before .before .before .before .before .before .before .before .args .n) (c .before .before .before .before .before .before .before .before .args .t1) (c .before .before .before .before .loop2 .j) _ (omega arith) (omega arith)) _ (c .before .rows-clash .ensures) (c .if1 .taken) ∙ c .before .before .before .before .loop2 .inv .2 in
-    distinct-yes (step-first (c .before .before .before .before .before .before .before .before .args .n) (c .before .before .before .before .before .before .before .before .args .t1) (c .before .before .before .before .before .before .before .loop .i) _ (omega arith) (omega arith)) _ e refl ∙ c .before .before .before .before .before .before .before .loop .inv .1
+    let s = c .before .before .before .before .before .before .before .before in
+    let l = long s in
+    let e = any-yes (step-first (s .args .n) (s .args .t1) (c .before .before .before .before .loop2 .j) _ (omega arith) (omega arith)) _ (c .before .rows-clash .ensures) (c .if1 .taken) ∙ c .before .before .before .before .loop2 .inv .1 in
+    distinct-yes (step-first (s .args .n) (s .args .t1) (c .before .before .before .before .before .before .before .loop .i) _ (omega arith) (omega arith)) _ e refl ∙ c .before .before .before .before .before .before .before .loop .inv .1
 
--- src/soundness.rt:292:13
 add-j-2 : tie.Need-add-j-2 Inv-loop2 μ-loop2 Inv-loop μ-loop
 add-j-2 c = search needs
 
--- src/soundness.rt:292:9
 loop2-less : tie.Need-loop2-less Inv-loop2 μ-loop2 Inv-loop μ-loop
 loop2-less c = search needs
 
--- src/soundness.rt:292:9
 loop2-again : tie.Need-loop2-again Inv-loop2 μ-loop2 Inv-loop μ-loop
 loop2-again c =
-    let l = long (c .before .before .before .before .before .before .before .before) in
-    (search needs, search needs, any-no (step-first (c .before .before .before .before .before .before .before .before .args .n) (c .before .before .before .before .before .before .before .before .args .t1) (c .before .before .before .before .loop2 .j) _ (omega arith) (omega arith)) _ (c .before .rows-clash .ensures) (c .if1 .left) ∙ c .before .before .before .before .loop2 .inv .2)
+    let s = c .before .before .before .before .before .before .before .before in
+    let l = long s in
+    (search needs, any-no (step-first (s .args .n) (s .args .t1) (c .before .before .before .before .loop2 .j) _ (omega arith) (omega arith)) _ (c .before .rows-clash .ensures) (c .if1 .left) ∙ c .before .before .before .before .loop2 .inv .1)
 
--- src/soundness.rt:290:9
 add-i : tie.Need-add-i Inv-loop2 μ-loop2 Inv-loop μ-loop
 add-i c = search needs
 
--- src/soundness.rt:290:5
 loop-less : tie.Need-loop-less Inv-loop2 μ-loop2 Inv-loop μ-loop
 loop-less c = search needs
 
--- src/soundness.rt:290:5
 loop-again : tie.Need-loop-again Inv-loop2 μ-loop2 Inv-loop μ-loop
 loop-again c =
-    let l = long (c .before .before .before .before .before) in
-    let e = any-end (past-first (c .before .before .before .before .before .args .n) (c .before .before .before .before .before .args .t1) (c .before .loop2 .j) (omega arith) (omega arith)) _ ∙ c .before .loop2 .inv .2 in
-    (search needs, distinct-no (step-first (c .before .before .before .before .before .args .n) (c .before .before .before .before .before .args .t1) (c .before .before .before .before .loop .i) _ (omega arith) (omega arith)) _ e refl ∙ c .before .before .before .before .loop .inv .1)
+    let s = c .before .before .before .before .before in
+    let l = long s in
+    let e = any-end (past-first (s .args .n) (s .args .t1) (c .before .loop2 .j) (omega arith) (omega arith)) _ ∙ c .before .loop2 .inv .1 in
+    (search needs, distinct-no (step-first (s .args .n) (s .args .t1) (c .before .before .before .before .loop .i) _ (omega arith) (omega arith)) _ e refl ∙ c .before .before .before .before .loop .inv .1)
 
--- src/soundness.rt:286:1
 returns-2 : tie.Need-returns-2 Inv-loop2 μ-loop2 Inv-loop μ-loop
 returns-2 c =
-    let l = long (c .before .before) in
-    distinct-end (past-first (c .before .before .args .n) (c .before .before .args .t1) (c .before .loop .i) (omega arith) (omega arith)) _ ∙ c .before .loop .inv .1
+    let s = c .before .before in
+    let l = long s in
+    distinct-end (past-first (s .args .n) (s .args .t1) (c .before .loop .i) (omega arith) (omega arith)) _ ∙ c .before .loop .inv .1
 
 pub rows-distinct-spec : {M : Type 1} → statement M
 rows-distinct-spec =

@@ -1,44 +1,33 @@
 use borrow.Author.Needs.{needs}
 use Rattle.board.proofs.soundness.rows_paired.Statement.{statement}
 use Rattle.board.proofs.soundness.rows_paired.Tie as tie
-use Rattle.board.proofs.soundness.rows_paired.Reads as reads
-use Rattle.board.proofs.soundness.rows_paired.Lts as lts
-use Rattle.board.proofs.soundness.row_answers.Reads as row-answers-reads
 use borrow.Author.Tests.{eq-eqb, ne-eqb}
 use Rattle.board.specs.RowTests.{paired}
 
--- src/soundness.rt:330:28
 enum-told : tie.Need-enum-told
 enum-told c = search needs
 
--- src/soundness.rt:331:32
 enum-told-2 : tie.Need-enum-told-2
 enum-told-2 c = search needs
 
--- src/soundness.rt:332:28
 enum-known-standing : tie.Need-enum-known-standing
 enum-known-standing c = search needs
 
--- src/soundness.rt:334:17
 returns : tie.Need-returns
 unfolding paired
 returns c = simp (c .before .before .before .standing .given .1, eq-eqb _ _ (c .if1 .taken))
 
--- src/soundness.rt:336:13
 row-answers-requires : tie.Need-row-answers-requires
 row-answers-requires c κs = search needs
 
--- src/soundness.rt:325:1
 returns-2 : tie.Need-returns-2
 unfolding paired
 returns-2 c = rw (c .enum-told .given .1)
 
--- src/soundness.rt:325:1
 returns-3 : tie.Need-returns-3
 unfolding paired
 returns-3 c = rw (c .enum-told2 .given .1)
 
--- src/soundness.rt:325:1
 returns-4 : tie.Need-returns-4
 unfolding paired
 returns-4 c = simp (c .before .before .before .before .standing .given .1, ne-eqb _ _ (c .before .if1 .left)) (c .row-answers .ensures)

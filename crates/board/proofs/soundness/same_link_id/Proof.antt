@@ -1,10 +1,7 @@
 use Rattle.board.proofs.soundness.same_link_id.Statement.{statement}
 use Rattle.board.proofs.soundness.same_link_id.Tie as tie
-use Rattle.board.proofs.soundness.same_link_id.Reads as reads
-use Rattle.board.proofs.soundness.same_link_id.Lts as lts
 use Rattle.octets.proofs.LinkIds.{sameLinkId-bits}
 
--- src/soundness.rt:229:1
 returns : tie.Need-returns
 returns c =
     let v = c .before .before .before .before .args in

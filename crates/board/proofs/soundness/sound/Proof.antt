@@ -1,27 +1,20 @@
 use borrow.Author.Needs.{needs}
 use Rattle.board.proofs.soundness.sound.Statement.{statement}
 use Rattle.board.proofs.soundness.sound.Tie as tie
-use Rattle.board.proofs.soundness.sound.Reads as reads
-use Rattle.board.proofs.soundness.sound.Lts as lts
-use Rattle.board.proofs.soundness.sound_rows.Reads as sound-rows-reads
 use borrow.Author.Tests.{le-leb, lt-leb}
 use Rattle.board.specs.Soundness.{sound}
 
--- src/soundness.rt:385:9
 returns : tie.Need-returns
 unfolding sound
 returns c = simp (lt-leb _ _ (c .if1 .taken))
 
--- src/soundness.rt:388:9
 returns-2 : tie.Need-returns-2
 unfolding sound
 returns-2 c = simp (le-leb _ _ (c .before .before .if1 .left), lt-leb _ _ (c .if2 .taken))
 
--- src/soundness.rt:390:5
 sound-rows-requires : tie.Need-sound-rows-requires
 sound-rows-requires c κs = search needs
 
--- src/soundness.rt:379:1
 returns-3 : tie.Need-returns-3
 unfolding sound
 returns-3 c = simp (le-leb _ _ (c .before .before .before .if1 .left), le-leb _ _ (c .before .if2 .left)) (c .sound-rows .ensures)

@@ -4,57 +4,42 @@ use Rattle.board.proofs.Rows.{joined-shares-not, call-shares-not}
 use borrow.Author.Needs.{needs}
 use Rattle.board.proofs.soundness.standings_clash.Statement.{statement}
 use Rattle.board.proofs.soundness.standings_clash.Tie as tie
-use Rattle.board.proofs.soundness.standings_clash.Reads as reads
-use Rattle.board.proofs.soundness.standings_clash.Lts as lts
-use Rattle.board.proofs.soundness.calls_clash.Reads as calls-clash-reads
 
--- src/soundness.rt:264:28
 enum-told : tie.Need-enum-told
 enum-told c = search needs
 
--- src/soundness.rt:265:36
 enum-told-2 : tie.Need-enum-told-2
 enum-told-2 c = search needs
 
--- src/soundness.rt:266:26
 enum-known-s : tie.Need-enum-known-s
 enum-known-s c = search needs
 
--- src/soundness.rt:267:32
 enum-told-3 : tie.Need-enum-told-3
 enum-told-3 c = search needs
 
--- src/soundness.rt:268:40
 enum-told-4 : tie.Need-enum-told-4
 enum-told-4 c = search needs
 
--- src/soundness.rt:269:30
 enum-known-t : tie.Need-enum-known-t
 enum-known-t c = search needs
 
--- src/soundness.rt:269:36
 calls-clash-requires : tie.Need-calls-clash-requires
 calls-clash-requires c κs = search needs
 
--- src/soundness.rt:258:1
 returns : tie.Need-returns
 returns c = search needs
 
--- src/soundness.rt:258:1
 returns-2 : tie.Need-returns-2
 returns-2 c = rw (c .enum-told2 .given .1) (sym (joined-shares-not (c .before .before .args .a .leg) (c .enum-told2 .given .0 .0) (c .enum-told2 .given .0 .1 .0) (rowEntry (c .before .before .args .b))))
 
--- src/soundness.rt:258:1
 returns-3 : tie.Need-returns-3
 returns-3 c = search needs
 
--- src/soundness.rt:258:1
 returns-4 : tie.Need-returns-4
 returns-4 c =
     let v = c .before .before .before .before .before .args in
     rw (c .before .before .before .s .given .1, c .enum-told4 .given .1) (sym (call-shares-not (v .a .leg) (c .before .before .before .s .given .0 .0) (v .b .leg) (c .enum-told4 .given .0 .0) (c .enum-told4 .given .0 .1 .0)))
 
--- src/soundness.rt:258:1
 returns-5 : tie.Need-returns-5
 returns-5 c = simp (c .before .before .before .before .before .s .given .1, c .before .before .t .given .1) (c .calls-clash .ensures)
 

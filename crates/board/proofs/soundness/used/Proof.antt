@@ -1,6 +1,6 @@
 use borrow.Author.Needs.{needs}
-use Prim.Native.Nat.{ℕ, _≤_, _<_, _+_, _-_}
-use mathlib.Core.Path.{_≡_, refl, sym, ap, _∙_}
+use Prim.Native.Nat.{_≤_, _-_}
+use mathlib.Core.Path.{_≡_, sym, ap, _∙_}
 use native.Mathlib.Omega.{arith}
 use lib.ListN.{length, take}
 use lib.Seq.{take-all}
@@ -8,9 +8,6 @@ use Rattle.board.specs.Entries.{taken}
 use Rattle.board.proofs.Rows.{taken-less}
 use Rattle.board.proofs.soundness.used.Statement.{statement}
 use Rattle.board.proofs.soundness.used.Tie as tie
-use Rattle.board.proofs.soundness.used.Reads as reads
-use Rattle.board.proofs.soundness.used.Lts as lts
-use Rattle.board.proofs.soundness.is_taken.Reads as is-taken-reads
 
 abbrev Inv-loop : tie.InvT-loop
 Inv-loop rows n₀ n = (n ≤ 64) × (taken (take n rows) ≡ taken rows)
@@ -21,47 +18,38 @@ abbrev μ-loop : tie.MeasureT-loop
 long : (c : tie.Start Inv-loop μ-loop) → length (c .args .t1) ≡ 64
 long c = search needs
 
--- src/soundness.rt:220:5
 loop-holds : tie.Need-loop-holds Inv-loop μ-loop
 loop-holds c =
     let l = long c in
     (search needs, ap taken (take-all 64 (c .args .t1) (omega arith)))
 
--- src/soundness.rt:221:26
 sub-is-taken : tie.Need-sub-is-taken Inv-loop μ-loop
 sub-is-taken c = search needs
 
--- src/soundness.rt:221:21
 mul-is-taken : tie.Need-mul-is-taken Inv-loop μ-loop
 mul-is-taken c = search needs
 
--- src/soundness.rt:221:21
 array-copy-out-is-taken : tie.Need-array-copy-out-is-taken Inv-loop μ-loop
 array-copy-out-is-taken c = search needs
 
--- src/soundness.rt:221:12
 is-taken-requires : tie.Need-is-taken-requires Inv-loop μ-loop
 is-taken-requires c κs = search needs
 
--- src/soundness.rt:222:13
 returns : tie.Need-returns Inv-loop μ-loop
 returns c = (search needs, c .before .before .before .before .loop .inv .1)
 
--- src/soundness.rt:224:9
 sub-n : tie.Need-sub-n Inv-loop μ-loop
 sub-n c = search needs
 
--- src/soundness.rt:220:5
 loop-less : tie.Need-loop-less Inv-loop μ-loop
 loop-less c = search needs
 
--- src/soundness.rt:220:5
 loop-again : tie.Need-loop-again Inv-loop μ-loop
 loop-again c =
-    let l = long (c .before .before .before .before .before) in
-    (search needs, taken-less (c .before .before .before .before .before .args .t1) (c .before .before .before .before .loop .n) _ (omega arith) (omega arith) (sym (c .before .is-taken .ensures) ∙ c .if1 .left) ∙ c .before .before .before .before .loop .inv .1)
+    let s = c .before .before .before .before .before in
+    let l = long s in
+    (search needs, taken-less (s .args .t1) (c .before .before .before .before .loop .n) _ (omega arith) (omega arith) (sym (c .before .is-taken .ensures) ∙ c .if1 .left) ∙ c .before .before .before .before .loop .inv .1)
 
--- src/soundness.rt:216:1
 returns-2 : tie.Need-returns-2 Inv-loop μ-loop
 returns-2 c = (search needs, c .before .loop .inv .1)
 
