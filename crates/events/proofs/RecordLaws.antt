@@ -30,14 +30,30 @@ use Rattle.events.specs.RecordValues.{isDigit, RecordRead}
 
 -- ---- a test of each octet, from place i on
 module _ (p : ℕ → Bool) (s : List ℕ) (i : ℕ) where
-  pub all-yes : i < length s → p (getD s i 0) ≡ true → all p (drop (i + 1) s) ≡ all p (drop i s)
+  all-yes : i < length s → p (getD s i 0) ≡ true → all p (drop (i + 1) s) ≡ all p (drop i s)
   all-yes h t = rw (drop-cons s i 0 h, t, add-one)
 
-  pub all-no : i < length s → p (getD s i 0) ≡ false → false ≡ all p (drop i s)
+  all-no : i < length s → p (getD s i 0) ≡ false → false ≡ all p (drop i s)
   all-no h t = rw (drop-cons s i 0 h, t)
 
   pub all-end : length s ≤ i → true ≡ all p (drop i s)
   all-end h = rw (drop-of-length-le s h)
+
+module _ (s : List ℕ) (i : ℕ) (h : i < length s) where
+  pub zero-at : getD s i 0 ≡ 0 → zeros (drop (i + 1) s) ≡ zeros (drop i s)
+  zero-at e = all-yes (λ (o : ℕ). eqb o 0) s i h (eq-eqb (getD s i 0) 0 e)
+
+  pub other-at : (getD s i 0 ≡ 0 → ⊥) → false ≡ zeros (drop i s)
+  other-at e = all-no (λ (o : ℕ). eqb o 0) s i h (ne-eqb (getD s i 0) 0 e)
+
+  pub digit-at : 48 ≤ getD s i 0 → getD s i 0 ≤ 57 → all isDigit (drop (i + 1) s) ≡ all isDigit (drop i s)
+  digit-at a b = all-yes isDigit s i h (rw (le-leb 48 (getD s i 0) a, le-leb (getD s i 0) 57 b))
+
+  pub low-at : getD s i 0 < 48 → false ≡ all isDigit (drop i s)
+  low-at a = all-no isDigit s i h (rw (lt-leb 48 (getD s i 0) a))
+
+  pub high-at : 48 ≤ getD s i 0 → 57 < getD s i 0 → false ≡ all isDigit (drop i s)
+  high-at a b = all-no isDigit s i h (rw (le-leb 48 (getD s i 0) a, lt-leb (getD s i 0) 57 b))
 
 -- ---- numbers, high octet first
 front-two : (s : List ℕ) → 2 ≤ length s → getD s 0 0 * 256 + getD s 1 0 ≡ numberOf (take 2 s)

@@ -55,18 +55,16 @@ fn valid_reference(n: u16) -> bool
     n % 32768 != 0
 }
 
-fn is_digit(octet: u8) -> bool
-    ensures { λ r. ⌜ r ≡ isDigit octet ⌝ }
-{
-    (48 <= octet) & (octet <= 57)
-}
-
 fn all_digits(s: &[u8]) -> bool
     ensures { λ r. ⌜ r ≡ all isDigit (now (s .entry)) ⌝ }
 {
     let mut i = 0;
     while i < s.len() {
-        if !is_digit(s[i]) {
+        let octet = s[i];
+        if octet < 48 {
+            return false;
+        }
+        if 57 < octet {
             return false;
         }
         i += 1;

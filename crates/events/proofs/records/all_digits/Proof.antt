@@ -1,13 +1,12 @@
 -- `ect::records::all_digits` meets its contract. The invariant: the octets from `i` on decide. Assumes nothing.
 use Prim.Native.Nat.{_≤_, _-_}
 use native.Mathlib.Omega.{arith}
-use mathlib.Core.Path.{_≡_, refl, sym, _∙_}
+use mathlib.Core.Path.{_≡_, refl, _∙_}
 use lib.ListN.{length, drop}
 use borrow.Author.Needs.{needs}
-use borrow.Author.Tests.{not-true, not-false}
 use Rattle.octets.specs.Lists.{all}
 use Rattle.events.specs.RecordValues.{isDigit}
-use Rattle.events.proofs.RecordLaws.{all-yes, all-no, all-end}
+use Rattle.events.proofs.RecordLaws.{digit-at, low-at, high-at, all-end}
 use Rattle.events.proofs.records.all_digits.Statement.{statement}
 use Rattle.events.proofs.records.all_digits.Tie as tie
 
@@ -20,15 +19,14 @@ abbrev μ-loop : tie.MeasureT-loop
 loop-holds : tie.Need-loop-holds Inv-loop μ-loop
 loop-holds c = (search needs, refl)
 
-shared-slice-read-is-digit : tie.Need-shared-slice-read-is-digit Inv-loop μ-loop
-shared-slice-read-is-digit c = search needs
-
-is-digit-requires : tie.Need-is-digit-requires Inv-loop μ-loop
-is-digit-requires c κs = search needs
+shared-slice-read-octet : tie.Need-shared-slice-read-octet Inv-loop μ-loop
+shared-slice-read-octet c = search needs
 
 returns : tie.Need-returns Inv-loop μ-loop
-returns c =
-    all-no isDigit (c .before .before .before .before .before .before .args .s .now) (c .before .before .before .before .loop .i) (omega arith) (sym (c .before .is-digit .ensures) ∙ not-true _ (c .if1 .taken)) ∙ c .before .before .before .before .loop .inv .1
+returns c = low-at (c .before .before .before .before .args .s .now) (c .before .before .before .loop .i) (omega arith) (omega arith) ∙ c .before .before .before .loop .inv .1
+
+returns-2 : tie.Need-returns-2 Inv-loop μ-loop
+returns-2 c = high-at (c .before .before .before .before .before .args .s .now) (c .before .before .before .before .loop .i) (omega arith) (omega arith) (omega arith) ∙ c .before .before .before .before .loop .inv .1
 
 add-i : tie.Need-add-i Inv-loop μ-loop
 add-i c = search needs
@@ -37,11 +35,10 @@ loop-less : tie.Need-loop-less Inv-loop μ-loop
 loop-less c = search needs
 
 loop-again : tie.Need-loop-again Inv-loop μ-loop
-loop-again c =
-    (search needs, all-yes isDigit (c .before .before .before .before .before .before .args .s .now) (c .before .before .before .before .loop .i) (omega arith) (sym (c .before .is-digit .ensures) ∙ not-false _ (c .if1 .left)) ∙ c .before .before .before .before .loop .inv .1)
+loop-again c = (search needs, digit-at (c .before .before .before .before .before .args .s .now) (c .before .before .before .before .loop .i) (omega arith) (omega arith) (omega arith) ∙ c .before .before .before .before .loop .inv .1)
 
-returns-2 : tie.Need-returns-2 Inv-loop μ-loop
-returns-2 c = all-end isDigit (c .before .before .before .args .s .now) (c .before .loop .i) (omega arith) ∙ c .before .loop .inv .1
+returns-3 : tie.Need-returns-3 Inv-loop μ-loop
+returns-3 c = all-end isDigit (c .before .before .args .s .now) (c .before .loop .i) (omega arith) ∙ c .before .loop .inv .1
 
 pub all-digits-spec : {M : Type 1} → statement M
 all-digits-spec =
@@ -50,10 +47,10 @@ all-digits-spec =
     Inv-loop
     μ-loop
     loop-holds
-    shared-slice-read-is-digit
-    is-digit-requires
+    shared-slice-read-octet
     returns
+    returns-2
     add-i
     loop-less
     loop-again
-    returns-2)
+    returns-3)

@@ -4,9 +4,8 @@ use native.Mathlib.Omega.{arith}
 use mathlib.Core.Path.{_≡_, refl, _∙_}
 use lib.ListN.{length, drop}
 use borrow.Author.Needs.{needs}
-use borrow.Author.Tests.{eq-eqb, ne-eqb}
 use Rattle.board.specs.Soundness.{zeros}
-use Rattle.events.proofs.RecordLaws.{all-yes, all-no, all-end}
+use Rattle.events.proofs.RecordLaws.{zero-at, other-at, all-end}
 use Rattle.events.proofs.records.all_zeros.Statement.{statement}
 use Rattle.events.proofs.records.all_zeros.Tie as tie
 
@@ -24,7 +23,7 @@ shared-slice-read-if1 c = search needs
 
 returns : tie.Need-returns Inv-loop μ-loop
 returns c =
-    all-no _ (c .before .before .before .before .args .s .now) (c .before .before .before .loop .i) (omega arith) (ne-eqb _ _ (c .if1 .taken)) ∙ c .before .before .before .loop .inv .1
+    other-at (c .before .before .before .before .args .s .now) (c .before .before .before .loop .i) (omega arith) (λ h. omega arith) ∙ c .before .before .before .loop .inv .1
 
 add-i : tie.Need-add-i Inv-loop μ-loop
 add-i c = search needs
@@ -34,7 +33,7 @@ loop-less c = search needs
 
 loop-again : tie.Need-loop-again Inv-loop μ-loop
 loop-again c =
-    (search needs, all-yes _ (c .before .before .before .before .args .s .now) (c .before .before .before .loop .i) (omega arith) (eq-eqb _ _ (c .if1 .left)) ∙ c .before .before .before .loop .inv .1)
+    (search needs, zero-at (c .before .before .before .before .args .s .now) (c .before .before .before .loop .i) (omega arith) (omega arith) ∙ c .before .before .before .loop .inv .1)
 
 returns-2 : tie.Need-returns-2 Inv-loop μ-loop
 returns-2 c = all-end _ (c .before .before .args .s .now) (c .before .loop .i) (omega arith) ∙ c .before .loop .inv .1

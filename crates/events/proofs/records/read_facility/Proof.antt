@@ -27,10 +27,10 @@ returns-2 : tie.Need-returns-2
 returns-2 c = facility-reference (known (c .before)) (c .if2 .taken)
 
 returns-3 : tie.Need-returns-3
-returns-3 c = facility-empty (known (c .before .before)) (c .if3 .taken)
+returns-3 c = facility-empty (known (c .before .before)) (omega arith)
 
 returns-4 : tie.Need-returns-4
-returns-4 c = facility-long (known (c .before .before .before)) (c .before .if3 .left) (c .if4 .taken)
+returns-4 c = facility-long (known (c .before .before .before)) (omega arith) (omega arith)
 
 add-all-zeros : tie.Need-add-all-zeros
 add-all-zeros c = search needs
@@ -48,10 +48,10 @@ all-zeros-requires : tie.Need-all-zeros-requires
 all-zeros-requires c κs = search needs
 
 returns-5 : tie.Need-returns-5
-returns-5 c = facility-fill (known (c .before .before .before .before .before .before)) (c .before .before .before .before .if3 .left) (c .before .before .before .if4 .left) (c .before .all-zeros .ensures) (c .if5 .taken)
+returns-5 c = facility-fill (known (c .before .before .before .before .before .before)) (omega arith) (omega arith) (c .before .all-zeros .ensures) (c .if5 .taken)
 
 returns-6 : tie.Need-returns-6
-returns-6 c = facility (known (c .before .before .before .before .before .before)) (c .before .before .before .before .if3 .left) (c .before .before .before .if4 .left) (c .before .all-zeros .ensures) (c .before .before .before .before .before .if2 .left) (c .if5 .left)
+returns-6 c = facility (known (c .before .before .before .before .before .before)) (omega arith) (omega arith) (c .before .all-zeros .ensures) (c .before .before .before .before .before .if2 .left) (c .if5 .left)
 
 pub read-facility-spec : {M : Type 1} → statement M
 read-facility-spec =

@@ -1,4 +1,5 @@
 -- `ect::records::read_open` meets its contract. Assumes nothing.
+use native.Mathlib.Omega.{arith}
 use borrow.Author.Needs.{needs}
 use Rattle.events.proofs.RecordLaws.{Referenced, open-other-length, open-reference, open-direction, open-presentation, open-digits, opened}
 use Rattle.events.proofs.records.read_open.Statement.{statement}
@@ -29,10 +30,10 @@ returns-2 : tie.Need-returns-2
 returns-2 c = open-reference (known (c .before)) (c .if2 .taken)
 
 returns-3 : tie.Need-returns-3
-returns-3 c = open-direction (known (c .before .before)) (c .if3 .taken)
+returns-3 c = open-direction (known (c .before .before)) (omega arith)
 
 returns-4 : tie.Need-returns-4
-returns-4 c = open-presentation (known (c .before .before .before)) (c .before .before .if2 .left) (c .before .if3 .left) (c .if4 .taken)
+returns-4 c = open-presentation (known (c .before .before .before)) (c .before .before .if2 .left) (omega arith) (omega arith)
 
 sub-valid-digits : tie.Need-sub-valid-digits
 sub-valid-digits c = search needs
@@ -47,7 +48,7 @@ valid-digits-requires : tie.Need-valid-digits-requires
 valid-digits-requires c κs = search needs
 
 returns-5 : tie.Need-returns-5
-returns-5 c = open-digits (known (c .before .before .before .before .before .before)) (c .before .before .before .before .before .if2 .left) (c .before .before .before .before .if3 .left) (c .before .before .before .if4 .left) (c .before .valid-digits .ensures) (c .if5 .taken)
+returns-5 c = open-digits (known (c .before .before .before .before .before .before)) (c .before .before .before .before .before .if2 .left) (omega arith) (omega arith) (c .before .valid-digits .ensures) (c .if5 .taken)
 
 u32-at-requires : tie.Need-u32-at-requires
 u32-at-requires c κs = search needs
@@ -56,9 +57,7 @@ direction-of-requires : tie.Need-direction-of-requires
 direction-of-requires c κs = search needs
 
 returns-6 : tie.Need-returns-6
-returns-6 c =
-    let k = known (c .before .before .before .before .before .before .before .before) in
-    opened k (c .before .before .before .before .before .before .before .if2 .left) (c .before .before .before .before .before .before .if3 .left) (c .before .before .before .before .before .if4 .left) (c .before .before .before .valid-digits .ensures) (c .before .before .if5 .left) (c .before .u32-at .ensures) (c .direction-of .ensures)
+returns-6 c = opened (known (c .before .before .before .before .before .before .before .before)) (c .before .before .before .before .before .before .before .if2 .left) (omega arith) (omega arith) (c .before .before .before .valid-digits .ensures) (c .before .before .if5 .left) (c .before .u32-at .ensures) (c .direction-of .ensures)
 
 pub read-open-spec : {M : Type 1} → statement M
 read-open-spec =

@@ -1,11 +1,12 @@
 -- `ect::records::read_request` meets its contract. Assumes nothing.
+use native.Mathlib.Omega.{arith}
 use borrow.Author.Needs.{needs}
 use Rattle.events.proofs.RecordLaws.{no-kind, of-kind, unknown-kind}
 use Rattle.events.proofs.records.read_request.Statement.{statement}
 use Rattle.events.proofs.records.read_request.Tie as tie
 
 returns : tie.Need-returns
-returns c = no-kind (c .before .before .args .event .now) (c .if1 .taken)
+returns c = no-kind (c .before .before .args .event .now) (omega arith)
 
 shared-slice-read-kind : tie.Need-shared-slice-read-kind
 shared-slice-read-kind c = search needs

@@ -8,7 +8,7 @@ use Rattle.events.proofs.records.valid_digits.Statement.{statement}
 use Rattle.events.proofs.records.valid_digits.Tie as tie
 
 returns : tie.Need-returns
-returns c = too-many (c .before .before .args .count) (c .before .before .args .digits .now) (c .before .before .pre) (c .if1 .taken)
+returns c = too-many (c .before .before .args .count) (c .before .before .args .digits .now) (c .before .before .pre) (omega arith)
 
 slice-aggregate-all-digits : tie.Need-slice-aggregate-all-digits
 slice-aggregate-all-digits c = sym (length-take-le (c .before .before .before .args .count) (c .before .before .before .args .digits .now) (omega (arith, c .before .before .before .pre)))
@@ -17,7 +17,7 @@ all-digits-requires : tie.Need-all-digits-requires
 all-digits-requires c κs = search needs
 
 returns-2 : tie.Need-returns-2
-returns-2 c = no-digits (c .before .before .before .before .before .args .count) (c .before .before .before .before .before .args .digits .now) (c .before .before .before .before .before .pre) (c .before .before .before .if1 .left) (c .before .all-digits .ensures) (c .if2 .taken)
+returns-2 c = no-digits (c .before .before .before .before .before .args .count) (c .before .before .before .before .before .args .digits .now) (c .before .before .before .before .before .pre) (omega arith) (c .before .all-digits .ensures) (c .if2 .taken)
 
 sub-all-zeros : tie.Need-sub-all-zeros
 sub-all-zeros c = search needs
@@ -32,9 +32,7 @@ all-zeros-requires : tie.Need-all-zeros-requires
 all-zeros-requires c κs = search needs
 
 returns-3 : tie.Need-returns-3
-returns-3 c =
-    let a = c .before .before .before .before .before .before .before .args in
-    digits-then (a .count) (a .digits .now) (c .before .before .before .before .before .before .before .pre) (c .before .before .before .before .before .if1 .left) (c .before .before .before .all-digits .ensures) (c .before .before .if2 .left) (c .all-zeros .ensures)
+returns-3 c = digits-then (c .before .before .before .before .before .before .before .args .count) (c .before .before .before .before .before .before .before .args .digits .now) (c .before .before .before .before .before .before .before .pre) (omega arith) (c .before .before .before .all-digits .ensures) (c .before .before .if2 .left) (c .all-zeros .ensures)
 
 pub valid-digits-spec : {M : Type 1} → statement M
 valid-digits-spec =
