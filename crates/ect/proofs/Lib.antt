@@ -3,3 +3,4 @@ pub mod PartyLaws
 pub mod PairingLaws
 pub mod ReplyLaws
 pub mod ServingLaws
+pub mod EffectLaws
