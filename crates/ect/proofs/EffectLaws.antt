@@ -1,5 +1,6 @@
 -- Effects that carry a decision: by the parts that the code makes, and by the checks that led there.
-use Prim.Native.Nat.{_≤_, ℕ}
+use lib.ListN.{take, drop}
+use Prim.Native.Nat.{_≤_, ℕ, _+_, _-_}
 use native.Mathlib.Omega.{arith}
 use mathlib.Core.Path.{_∙_, _≡_, refl, ap, ap₂, subst, subst⁻¹, sym}
 use mathlib.Core.Bool.{_&&_, _||_, Bool, true, false, cond}
@@ -7,8 +8,8 @@ use mathlib.Core.List.{_∷_, List, []}
 use mathlib.Core.Option.{none, Option, some}
 use lib.Dec.{eqb}
 use lib.IntN.{ℤ}
-use Rattle.board.specs.Changes.{withRows, enter, changedRows}
-use Rattle.board.specs.Entries.{entry, calls, hasLeg, hasReference, partyOf, isNumber, referenceOf}
+use Rattle.board.specs.Changes.{withRows, enter, changedRows, full}
+use Rattle.board.specs.Entries.{entry, calls, hasLeg, hasReference, partyOf, isNumber, referenceOf, taken}
 use Rattle.board.specs.Making.{options}
 use Rattle.board.specs.States.{holdable}
 use Rattle.board.specs.declared.AuxiliaryState.{AuxiliaryState}
@@ -27,7 +28,7 @@ use Rattle.component.specs.declared.Answer.the-variants.{LinkIdResult}
 use Rattle.ect.proofs.ReplyLaws.{answered, says, silent, transfer}
 use Rattle.ect.specs.Effects.{Carries, openedRow}
 use Rattle.ect.specs.ReplyValues.{Adds, numberTold, Describes, transferRecords, Says}
-use Rattle.events.specs.EventRecords.{Release}
+use Rattle.events.specs.EventRecords.{Release, Request, request}
 use Rattle.events.specs.declared.Refusal.{Refusal}
 use Rattle.events.specs.declared.Refusal.the-variants.{LegOnBoard, ReferenceInUse, NoEmptyRow, NoSuchCall, NotPermitted, NoSuchLeg}
 use Rattle.octets.proofs.Lists.{find-mem, any-of, find-none}
@@ -36,11 +37,11 @@ use Rattle.octets.specs.Numbers.{nextLinkId}
 use Rattle.octets.specs.declared.CallReference.{CallReference}
 use Rattle.octets.specs.declared.IntegerOctets.{IntegerOctets}
 use Rattle.octets.specs.declared.LinkId.{LinkId}
-use Rattle.rules.specs.Checks.{Refuse, opened, OpenLeg, SetState, SetAuxiliary, ReleaseLeg, EndAlerting, ServeCall, Decision, decideOpen, decideProgress, mayProgress, decideHold, mayHold, decideRelease, decideAnswer, decideAlerting, decideFacility, entryAt, isNamed, named}
+use Rattle.rules.specs.Checks.{Refuse, opened, OpenLeg, SetState, SetAuxiliary, ReleaseLeg, EndAlerting, ServeCall, Decision, decideOpen, decideProgress, mayProgress, decideHold, mayHold, decideRelease, decideAnswer, decideAlerting, decideFacility, entryAt, isNamed, named, decide}
 use Rattle.rules.specs.Pairing.{verdict}
 use Rattle.rules.specs.Replies.{Drop, Gone, numberAt, Tell, facility, transferredActive, Reply, ReplyRecord}
 use Rattle.rules.specs.Serving.{serve}
-use Rattle.rules.specs.Step.{replies, boardAfter, rowsAfter, candidateAfter}
+use Rattle.rules.specs.Step.{replies, boardAfter, rowsAfter, candidateAfter, decision}
 use Rattle.board.specs.declared.Change.the-variants as change
 use Rattle.component.specs.declared.Answer.{Answer as ComponentAnswer}
 use Rattle.component.specs.declared.Answer.the-variants as answer
@@ -200,3 +201,21 @@ reference-there r es e = let m = find-mem (isNamed r) (calls es) e in sym (refer
 
 pub reference-not-there : (r : ℕ) (es : List Entry) → named r es ≡ none → any (hasReference r) es ≡ false
 reference-not-there r es e = sym (reference-calls r es) ∙ find-none (isNamed r) (calls es) e
+
+-- ---- from what the code has to what the decision says
+
+pub service-is : {e : Effect} {b : Board} (p : Party) {v w : Service} → v ≡ w → Carries e b (ServeCall p v) → Carries e b (ServeCall p w)
+service-is {e} {b} p h k = subst (λ (x : Service). Carries e b (ServeCall p x)) h k
+
+pub digits-is : {e : Effect} {b : Board} (x y w : Bool) (l : ℕ) (c : Call) (p n : ℕ) {ds es : List ℕ} → ds ≡ es → Carries e b (decideOpen x y w (OpenLeg l c p n ds)) → Carries e b (decideOpen x y w (OpenLeg l c p n es))
+digits-is {e} {b} x y w l c p n h k = subst (λ (r : List ℕ). Carries e b (decideOpen x y w (OpenLeg l c p n r))) h k
+
+pub component-is : {e : Effect} {b : Board} (opt : Options) (z : ℤ) (es : List Entry) (o : Option Party) {c d : List ℕ} → c ≡ d → Carries e b (decideFacility opt z es c o) → Carries e b (decideFacility opt z es d o)
+component-is {e} {b} opt z es o h k = subst (λ (r : List ℕ). Carries e b (decideFacility opt z es r o)) h k
+
+pub component-part : (n : ℕ) (os : List ℕ) → take (n + 4 - 4) (drop 4 os) ≡ take n (drop 4 os)
+component-part n os = ap (λ (m : ℕ). take m (drop 4 os)) (let h : n + 4 - 4 ≡ n = omega arith in h)
+
+pub by-request : {e : Effect} (b : Board) (os : List ℕ) (q : Request) → request os ≡ q → Carries e b (decide (b .options) (b .candidate .0) (full (b .rows)) (taken (b .rows)) q) → Carries e b (decision b os)
+unfolding decision
+by-request {e} b os q h k = subst⁻¹ (λ (x : Request). Carries e b (decide (b .options) (b .candidate .0) (full (b .rows)) (taken (b .rows)) x)) h k

@@ -4,3 +4,4 @@ pub mod PairingLaws
 pub mod ReplyLaws
 pub mod ServingLaws
 pub mod EffectLaws
+pub mod NumberLaws

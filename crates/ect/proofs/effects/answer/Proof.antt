@@ -1,78 +1,60 @@
+use mathlib.Core.Path.{sym, ap, _∙_}
+use Rattle.octets.proofs.Places.{told}
+use Rattle.board.specs.Entries.{taken}
+use Rattle.rules.specs.Checks.{named, entryAt}
+use Rattle.ect.proofs.PartyLaws.{party-none, party-some, entry-none, entry-some}
+use Rattle.ect.proofs.EffectLaws.{answer-none, answer-some, alerting-yes, alerting-no, alerting-ended}
 use borrow.Author.Needs.{needs}
 use Rattle.ect.proofs.effects.answer.Statement.{statement}
 use Rattle.ect.proofs.effects.answer.Tie as tie
-use Rattle.ect.proofs.effects.answer.Reads as reads
-use Rattle.ect.proofs.effects.answer.Lts as lts
-use Rattle.board.proofs.changing.change.Reads as change-reads
-use Rattle.ect.proofs.effects.number_at.Reads as number-at-reads
-use Rattle.ect.proofs.effects.refuse.Reads as refuse-reads
-use Rattle.ect.proofs.parties.entry_at.Reads as entry-at-reads
-use Rattle.ect.proofs.replies.Out.push_answer_told.Reads as push-answer-told-reads
-use Rattle.ect.proofs.replies.empty.Reads as empty-reads
 
--- src/effects.rt:270:35
 entry-at-requires : tie.Need-entry-at-requires
 entry-at-requires c κs = search needs
 
--- src/effects.rt:270:26
 enum-known-entry : tie.Need-enum-known-entry
 enum-known-entry c = search needs
 
--- src/effects.rt:271:30
 enum-told : tie.Need-enum-told
 enum-told c = search needs
 
--- src/effects.rt:271:9
 refuse-requires : tie.Need-refuse-requires
 refuse-requires c κs = search needs
 
--- src/effects.rt:271:9
 returns : tie.Need-returns
-returns c = ?
+returns c = answer-none (entryAt (c .before .before .before .before .args .leg) (taken (c .before .before .before .before .args .board .rows))) (c .before .before .before .before .args .leg) (entry-none (entryAt (c .before .before .before .before .args .leg) (taken (c .before .before .before .before .args .board .rows))) (told (c .before .before .before .entry-at .ensures) (c .before .enum-told .given .1))) (c .refuse .ensures)
 
--- src/effects.rt:274:35
 enum-known-connection : tie.Need-enum-known-connection
 enum-known-connection c = search needs
 
--- src/effects.rt:275:30
 enum-told-2 : tie.Need-enum-told-2
 enum-told-2 c = search needs
 
--- src/effects.rt:275:9
 refuse-requires-2 : tie.Need-refuse-requires-2
 refuse-requires-2 c κs = search needs
 
--- src/effects.rt:275:9
 returns-2 : tie.Need-returns-2
-returns-2 c = ?
+returns-2 c = answer-some (entryAt (c .before .before .before .before .before .before .before .args .leg) (taken (c .before .before .before .before .before .before .before .args .board .rows))) (c .before .before .before .before .before .before .before .args .leg) _ (entry-some (entryAt (c .before .before .before .before .before .before .before .args .leg) (taken (c .before .before .before .before .before .before .before .args .board .rows))) (told (c .before .before .before .before .before .before .entry-at .ensures) (c .before .before .before .before .entry .given .1))) (c .before .enum-told2 .given .1) (c .refuse2 .ensures)
 
--- src/effects.rt:280:20
 change-requires : tie.Need-change-requires
 change-requires c κs = search needs
 
--- src/effects.rt:281:18
 empty-requires : tie.Need-empty-requires
 empty-requires c κs = search needs
 
--- src/effects.rt:281:52
 number-at-requires : tie.Need-number-at-requires
 number-at-requires c κs = search needs
 
--- src/effects.rt:281:18
 push-answer-told-requires : tie.Need-push-answer-told-requires
 push-answer-told-requires c κs = search needs
 
--- src/effects.rt:278:9
 returns-3 : tie.Need-returns-3
-returns-3 c = ?
+returns-3 c = answer-some (entryAt (c .before .before .before .before .before .before .before .before .before .before .before .before .args .leg) (taken (c .before .before .before .before .before .before .before .before .before .before .before .before .args .board .rows))) (c .before .before .before .before .before .before .before .before .before .before .before .before .args .leg) _ (entry-some (entryAt (c .before .before .before .before .before .before .before .before .before .before .before .before .args .leg) (taken (c .before .before .before .before .before .before .before .before .before .before .before .before .args .board .rows))) (told (c .before .before .before .before .before .before .before .before .before .before .before .entry-at .ensures) (c .before .before .before .before .before .before .before .before .before .entry .given .1))) (c .before .before .before .before .before .before .connection .given .1) (alerting-yes (entryAt (c .before .before .before .before .before .before .before .before .before .before .before .before .args .leg) (taken (c .before .before .before .before .before .before .before .before .before .before .before .before .args .board .rows))) (c .before .before .before .before .before .before .before .before .before .before .before .before .args .leg) (c .before .before .before .before .before .before .connection .given .0 .0) (c .before .before .before .before .before .before .connection .given .0 .1 .0) (c .before .before .before .before .if1 .taken) (alerting-ended (c .before .before .before .before .before .before .before .before .before .before .before .before .args .board) (c .before .before .before .before .before .before .before .before .before .before .before .before .args .leg) (c .before .before .before .before .before .before .connection .given .0 .0) (c .before .before .before .change .ensures) (c .before .before .empty .ensures) (c .before .number-at .ensures) (c .push-answer-told .ensures)))
 
--- src/effects.rt:284:5
 refuse-requires-3 : tie.Need-refuse-requires-3
 refuse-requires-3 c κs = search needs
 
--- src/effects.rt:267:1
 returns-4 : tie.Need-returns-4
-returns-4 c = ?
+returns-4 c = answer-some (entryAt (c .before .before .before .before .before .before .before .before .before .args .leg) (taken (c .before .before .before .before .before .before .before .before .before .args .board .rows))) (c .before .before .before .before .before .before .before .before .before .args .leg) _ (entry-some (entryAt (c .before .before .before .before .before .before .before .before .before .args .leg) (taken (c .before .before .before .before .before .before .before .before .before .args .board .rows))) (told (c .before .before .before .before .before .before .before .before .entry-at .ensures) (c .before .before .before .before .before .before .entry .given .1))) (c .before .before .before .connection .given .1) (alerting-no (entryAt (c .before .before .before .before .before .before .before .before .before .args .leg) (taken (c .before .before .before .before .before .before .before .before .before .args .board .rows))) (c .before .before .before .before .before .before .before .before .before .args .leg) (c .before .before .before .connection .given .0 .0) (c .before .before .before .connection .given .0 .1 .0) (c .before .if1 .left) (c .refuse3 .ensures))
 
 pub answer-spec : {M : Type 1} → statement M
 answer-spec =

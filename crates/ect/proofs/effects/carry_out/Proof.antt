@@ -1,64 +1,47 @@
+use mathlib.Core.Path.{sym}
+use Rattle.ect.proofs.EffectLaws.{service-is, served-silent, responded}
 use borrow.Author.Needs.{needs}
 use Rattle.ect.proofs.effects.carry_out.Statement.{statement}
 use Rattle.ect.proofs.effects.carry_out.Tie as tie
-use Rattle.ect.proofs.effects.carry_out.Reads as reads
-use Rattle.ect.proofs.effects.carry_out.Lts as lts
-use Rattle.ect.proofs.effects.assign.Reads as assign-reads
-use Rattle.ect.proofs.effects.transfer.Reads as transfer-reads
-use Rattle.ect.proofs.replies.Out.push_reply.Reads as push-reply-reads
-use Rattle.ect.proofs.replies.empty.Reads as empty-reads
 
--- src/effects.rt:340:22
 enum-told : tie.Need-enum-told
 enum-told c = search needs
 
--- src/effects.rt:342:18
 empty-requires : tie.Need-empty-requires
 empty-requires c κs = search needs
 
--- src/effects.rt:344:26
 enum-known-service : tie.Need-enum-known-service
 enum-known-service c = search needs
 
--- src/effects.rt:347:18
 empty-requires-2 : tie.Need-empty-requires-2
 empty-requires-2 c κs = search needs
 
--- src/effects.rt:347:18
 push-reply-requires : tie.Need-push-reply-requires
 push-reply-requires c κs = search needs
 
--- src/effects.rt:349:31
 enum-known-service-2 : tie.Need-enum-known-service-2
 enum-known-service-2 c = search needs
 
--- src/effects.rt:349:50
 assign-requires : tie.Need-assign-requires
 assign-requires c κs = search needs
 
--- src/effects.rt:351:20
 enum-known-service-3 : tie.Need-enum-known-service-3
 enum-known-service-3 c = search needs
 
--- src/effects.rt:354:14
 transfer-requires : tie.Need-transfer-requires
 transfer-requires c κs = search needs
 
--- src/effects.rt:333:1
 returns : tie.Need-returns
-returns c = ?
+returns c = service-is (c .before .before .before .before .before .args .party) (sym (c .before .enum-told .given .1)) (served-silent (c .before .before .before .before .before .args .board) (c .before .before .before .before .before .args .party) (c .empty .ensures))
 
--- src/effects.rt:333:1
 returns-2 : tie.Need-returns-2
-returns-2 c = ?
+returns-2 c = service-is (c .before .before .before .before .before .before .before .args .party) (sym (c .before .before .before .service .given .1)) (responded (c .before .before .before .before .before .before .before .args .board) (c .before .before .before .before .before .before .before .args .party) (c .before .before .before .service .given .0 .0) (c .before .empty2 .ensures) (c .push-reply .ensures))
 
--- src/effects.rt:333:1
 returns-3 : tie.Need-returns-3
-returns-3 c = ?
+returns-3 c = service-is (c .before .before .before .before .before .before .args .party) (sym (c .before .before .service2 .given .1)) (c .assign .ensures)
 
--- src/effects.rt:333:1
 returns-4 : tie.Need-returns-4
-returns-4 c = ?
+returns-4 c = service-is (c .before .before .before .before .before .before .args .party) (sym (c .before .before .service3 .given .1)) (c .transfer .ensures)
 
 pub carry-out-spec : {M : Type 1} → statement M
 carry-out-spec =

@@ -1,49 +1,40 @@
+use mathlib.Core.Path.{sym, ap, _∙_}
+use Rattle.octets.proofs.Places.{told}
+use Rattle.board.specs.Entries.{taken, calls}
+use Rattle.rules.specs.Checks.{named, entryAt}
+use Rattle.ect.proofs.PartyLaws.{party-none, party-some, entry-none, entry-some}
+use Rattle.rules.specs.Serving.{serve}
+use Rattle.ect.proofs.EffectLaws.{facility-none, facility-some, service-is}
 use borrow.Author.Needs.{needs}
 use Rattle.ect.proofs.effects.facility.Statement.{statement}
 use Rattle.ect.proofs.effects.facility.Tie as tie
-use Rattle.ect.proofs.effects.facility.Reads as reads
-use Rattle.ect.proofs.effects.facility.Lts as lts
-use Rattle.component.proofs.read.Reads as read-reads
-use Rattle.ect.proofs.effects.carry_out.Reads as carry-out-reads
-use Rattle.ect.proofs.effects.refuse.Reads as refuse-reads
-use Rattle.ect.proofs.parties.named.Reads as named-reads
-use Rattle.ect.proofs.serving.serve.Reads as serve-reads
 
--- src/effects.rt:361:35
 named-requires : tie.Need-named-requires
 named-requires c κs = search needs
 
--- src/effects.rt:361:26
 enum-known-party : tie.Need-enum-known-party
 enum-known-party c = search needs
 
--- src/effects.rt:362:30
 enum-told : tie.Need-enum-told
 enum-told c = search needs
 
--- src/effects.rt:362:9
 refuse-requires : tie.Need-refuse-requires
 refuse-requires c κs = search needs
 
--- src/effects.rt:362:9
 returns : tie.Need-returns
-returns c = ?
+returns c = facility-none (c .before .before .before .before .before .args .board .options) (c .before .before .before .before .before .args .board .candidate .0) (taken (c .before .before .before .before .before .args .board .rows)) (c .before .before .before .before .before .args .component .now) (named (c .before .before .before .before .before .args .reference .0) (taken (c .before .before .before .before .before .args .board .rows))) (party-none (named (c .before .before .before .before .before .args .reference .0) (taken (c .before .before .before .before .before .args .board .rows))) (told (c .before .before .before .named .ensures) (c .before .enum-told .given .1))) (c .refuse .ensures)
 
--- src/effects.rt:364:49
 read-requires : tie.Need-read-requires
 read-requires c κs = search needs
 
--- src/effects.rt:364:29
 serve-requires : tie.Need-serve-requires
 serve-requires c κs = search needs
 
--- src/effects.rt:364:5
 carry-out-requires : tie.Need-carry-out-requires
 carry-out-requires c κs = search needs
 
--- src/effects.rt:358:1
 returns-2 : tie.Need-returns-2
-returns-2 c = ?
+returns-2 c = facility-some (c .before .before .before .before .before .before .before .before .args .board .options) (c .before .before .before .before .before .before .before .before .args .board .candidate .0) (taken (c .before .before .before .before .before .before .before .before .args .board .rows)) (c .before .before .before .before .before .before .before .before .args .component .now) (named (c .before .before .before .before .before .before .before .before .args .reference .0) (taken (c .before .before .before .before .before .before .before .before .args .board .rows))) (party-some (named (c .before .before .before .before .before .before .before .before .args .reference .0) (taken (c .before .before .before .before .before .before .before .before .args .board .rows))) (told (c .before .before .before .before .before .before .named .ensures) (c .before .before .before .before .party .given .1))) (service-is (c .before .before .before .before .party .given .0 .0) (c .before .serve .ensures ∙ ap (serve (c .before .before .before .before .before .before .before .before .args .board .options) (c .before .before .before .before .before .before .before .before .args .board .candidate .0) (calls (taken (c .before .before .before .before .before .before .before .before .args .board .rows))) (c .before .before .before .before .party .given .0 .0)) (c .before .before .read .ensures)) (c .carry-out .ensures))
 
 pub facility-spec : {M : Type 1} → statement M
 facility-spec =

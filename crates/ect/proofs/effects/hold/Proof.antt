@@ -1,62 +1,48 @@
+use mathlib.Core.Path.{sym, ap, _∙_}
+use Rattle.octets.proofs.Places.{told}
+use Rattle.board.specs.Entries.{taken}
+use Rattle.rules.specs.Checks.{named, entryAt}
+use Rattle.ect.proofs.PartyLaws.{party-none, party-some, entry-none, entry-some}
+use Rattle.ect.proofs.EffectLaws.{hold-none, hold-yes, hold-no, auxiliary-set}
 use borrow.Author.Needs.{needs}
 use Rattle.ect.proofs.effects.hold.Statement.{statement}
 use Rattle.ect.proofs.effects.hold.Tie as tie
-use Rattle.ect.proofs.effects.hold.Reads as reads
-use Rattle.ect.proofs.effects.hold.Lts as lts
-use Rattle.board.proofs.changing.change.Reads as change-reads
-use Rattle.ect.proofs.effects.is_holdable.Reads as is-holdable-reads
-use Rattle.ect.proofs.effects.may_hold.Reads as may-hold-reads
-use Rattle.ect.proofs.effects.refuse.Reads as refuse-reads
-use Rattle.ect.proofs.parties.named.Reads as named-reads
-use Rattle.ect.proofs.replies.empty.Reads as empty-reads
 
--- src/effects.rt:214:35
 named-requires : tie.Need-named-requires
 named-requires c κs = search needs
 
--- src/effects.rt:214:26
 enum-known-party : tie.Need-enum-known-party
 enum-known-party c = search needs
 
--- src/effects.rt:215:30
 enum-told : tie.Need-enum-told
 enum-told c = search needs
 
--- src/effects.rt:215:9
 refuse-requires : tie.Need-refuse-requires
 refuse-requires c κs = search needs
 
--- src/effects.rt:215:9
 returns : tie.Need-returns
-returns c = ?
+returns c = hold-none (c .before .before .before .before .args .reference .0) (c .before .before .before .before .args .auxiliary) (named (c .before .before .before .before .args .reference .0) (taken (c .before .before .before .before .args .board .rows))) (party-none (named (c .before .before .before .before .args .reference .0) (taken (c .before .before .before .before .args .board .rows))) (told (c .before .before .before .named .ensures) (c .before .enum-told .given .1))) (c .refuse .ensures)
 
--- src/effects.rt:220:8
 is-holdable-requires : tie.Need-is-holdable-requires
 is-holdable-requires c κs = search needs
 
--- src/effects.rt:220:29
 may-hold-requires : tie.Need-may-hold-requires
 may-hold-requires c κs = search needs
 
--- src/effects.rt:223:20
 change-requires : tie.Need-change-requires
 change-requires c κs = search needs
 
--- src/effects.rt:224:18
 empty-requires : tie.Need-empty-requires
 empty-requires c κs = search needs
 
--- src/effects.rt:221:9
 returns-2 : tie.Need-returns-2
-returns-2 c = ?
+returns-2 c = hold-yes (c .before .before .before .before .before .before .before .before .before .before .args .reference .0) (c .before .before .before .before .before .before .before .before .before .before .args .auxiliary) (named (c .before .before .before .before .before .before .before .before .before .before .args .reference .0) (taken (c .before .before .before .before .before .before .before .before .before .before .args .board .rows))) (party-some (named (c .before .before .before .before .before .before .before .before .before .before .args .reference .0) (taken (c .before .before .before .before .before .before .before .before .before .before .args .board .rows))) (told (c .before .before .before .before .before .before .before .before .before .named .ensures) (c .before .before .before .before .before .before .before .party .given .1))) (rw (c .before .before .before .before .is-holdable .ensures, c .before .before .before .may-hold .ensures) at (c .before .before .if1 .taken)) (auxiliary-set (c .before .before .before .before .before .before .before .before .before .before .args .board) (c .before .before .before .before .before .before .before .before .before .before .args .reference) (c .before .before .before .before .before .before .before .before .before .before .args .auxiliary) (c .before .change .ensures) (c .empty .ensures))
 
--- src/effects.rt:227:5
 refuse-requires-2 : tie.Need-refuse-requires-2
 refuse-requires-2 c κs = search needs
 
--- src/effects.rt:211:1
 returns-3 : tie.Need-returns-3
-returns-3 c = ?
+returns-3 c = hold-no (c .before .before .before .before .before .before .before .before .before .args .reference .0) (c .before .before .before .before .before .before .before .before .before .args .auxiliary) (named (c .before .before .before .before .before .before .before .before .before .args .reference .0) (taken (c .before .before .before .before .before .before .before .before .before .args .board .rows))) (party-some (named (c .before .before .before .before .before .before .before .before .before .args .reference .0) (taken (c .before .before .before .before .before .before .before .before .before .args .board .rows))) (told (c .before .before .before .before .before .before .before .before .named .ensures) (c .before .before .before .before .before .before .party .given .1))) (rw (c .before .before .before .is-holdable .ensures, c .before .before .may-hold .ensures) at (c .before .if1 .left)) (c .refuse2 .ensures)
 
 pub hold-spec : {M : Type 1} → statement M
 hold-spec =
