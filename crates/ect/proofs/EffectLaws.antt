@@ -207,9 +207,6 @@ reference-not-there r es e = sym (reference-calls r es) ∙ find-none (isNamed r
 pub service-is : {e : Effect} {b : Board} (p : Party) {v w : Service} → v ≡ w → Carries e b (ServeCall p v) → Carries e b (ServeCall p w)
 service-is {e} {b} p h k = subst (λ (x : Service). Carries e b (ServeCall p x)) h k
 
-pub digits-is : {e : Effect} {b : Board} (x y w : Bool) (l : ℕ) (c : Call) (p n : ℕ) {ds es : List ℕ} → ds ≡ es → Carries e b (decideOpen x y w (OpenLeg l c p n ds)) → Carries e b (decideOpen x y w (OpenLeg l c p n es))
-digits-is {e} {b} x y w l c p n h k = subst (λ (r : List ℕ). Carries e b (decideOpen x y w (OpenLeg l c p n r))) h k
-
 pub component-is : {e : Effect} {b : Board} (opt : Options) (z : ℤ) (es : List Entry) (o : Option Party) {c d : List ℕ} → c ≡ d → Carries e b (decideFacility opt z es c o) → Carries e b (decideFacility opt z es d o)
 component-is {e} {b} opt z es o h k = subst (λ (r : List ℕ). Carries e b (decideFacility opt z es r o)) h k
 

@@ -1,8 +1,9 @@
+use Rattle.board.specs.Entries.{taken}
 use native.Mathlib.Omega.{arith}
 use mathlib.Core.Path.{_∙_}
 use Rattle.events.proofs.RecordLaws.{said, open-length, component-within, component-small, digits-are}
-use Rattle.rules.specs.Checks.{decide}
-use Rattle.ect.proofs.EffectLaws.{by-request, digits-is, component-is, component-part}
+use Rattle.rules.specs.Checks.{decide, named}
+use Rattle.ect.proofs.EffectLaws.{by-request, component-is, component-part}
 use borrow.Author.Needs.{needs}
 use Rattle.ect.proofs.effects.effect_of.Statement.{statement}
 use Rattle.ect.proofs.effects.effect_of.Tie as tie
@@ -73,7 +74,7 @@ returns c = by-request (c .before .before .before .before .before .before .args 
 
 returns-2 : tie.Need-returns-2
 unfolding decide
-returns-2 c = by-request (c .before .before .before .before .before .before .before .args .board) (c .before .before .before .before .before .before .before .args .event .now) _ (said (c .before .before .before .before .before .read-request .ensures) (c .before .before .before .reference .given .1)) (digits-is _ _ _ _ _ _ _ (c .before .digits-of .ensures ∙ digits-are (c .before .before .before .before .before .before .before .args .event .now) (open-length (c .before .before .before .before .before .read-request .ensures) (c .before .before .before .reference .given .1))) (c .«open» .ensures))
+returns-2 c = by-request (c .before .before .before .before .before .before .before .args .board) (c .before .before .before .before .before .before .before .args .event .now) _ (said (c .before .before .before .before .before .read-request .ensures) (c .before .before .before .reference .given .1)) (rw (c .before .digits-of .ensures ∙ digits-are (c .before .before .before .before .before .before .before .args .event .now) (open-length (c .before .before .before .before .before .read-request .ensures) (c .before .before .before .reference .given .1))) at (c .«open» .ensures))
 
 returns-3 : tie.Need-returns-3
 unfolding decide
@@ -89,7 +90,7 @@ returns-5 c = by-request (c .before .before .before .before .before .before .arg
 
 returns-6 : tie.Need-returns-6
 unfolding decide
-returns-6 c = by-request (c .before .before .before .before .before .before .before .args .board) (c .before .before .before .before .before .before .before .args .event .now) _ (said (c .before .before .before .before .before .read-request .ensures) (c .before .before .before .reference4 .given .1)) (component-is _ _ _ _ (component-part _ _) (c .facility .ensures))
+returns-6 c = by-request (c .before .before .before .before .before .before .before .args .board) (c .before .before .before .before .before .before .before .args .event .now) _ (said (c .before .before .before .before .before .read-request .ensures) (c .before .before .before .reference4 .given .1)) (component-is (c .before .before .before .before .before .before .before .args .board .options) (c .before .before .before .before .before .before .before .args .board .candidate .0) (taken (c .before .before .before .before .before .before .before .args .board .rows)) (named (c .before .before .before .reference4 .given .0 .0 .0) (taken (c .before .before .before .before .before .before .before .args .board .rows))) (component-part (c .before .before .before .reference4 .given .0 .1 .0) (c .before .before .before .before .before .before .before .args .event .now)) (c .facility .ensures))
 
 returns-7 : tie.Need-returns-7
 unfolding decide
