@@ -5,3 +5,4 @@ pub mod ReplyLaws
 pub mod ServingLaws
 pub mod EffectLaws
 pub mod NumberLaws
+pub mod StepLaws

@@ -1,4 +1,15 @@
 // What an event does to a board: whether it is refused, the board afterwards, and the replies.
+use crate::digits::digits_of;
+use crate::pairing::is_delivered;
+use crate::parties::entry_at;
+use crate::parties::named;
+use crate::replies::FarParty;
+use crate::replies::Out;
+use crate::replies::Told;
+use crate::replies::empty;
+use crate::replies::number_of;
+use crate::replies::unknown;
+use crate::serving::serve;
 use board::AuxiliaryState;
 use board::Board;
 use board::Call;
@@ -18,17 +29,6 @@ use board::changing::open_row;
 use board::finding::Key;
 use board::finding::find;
 use component::Answer;
-use crate::digits::digits_of;
-use crate::pairing::is_delivered;
-use crate::parties::entry_at;
-use crate::parties::named;
-use crate::replies::FarParty;
-use crate::replies::Out;
-use crate::replies::Told;
-use crate::replies::empty;
-use crate::replies::number_of;
-use crate::replies::unknown;
-use crate::serving::serve;
 use events::Refusal;
 use events::records::RequestHead;
 use events::records::read_request;
@@ -78,7 +78,14 @@ fn first_state(direction: Direction) -> CallState
     }
 }
 
-fn opened_row(r: CallReference, leg: u32, d: Direction, presentation: u8, count: u8, digits: [u8; 15]) -> Row
+fn opened_row(
+    r: CallReference,
+    leg: u32,
+    d: Direction,
+    presentation: u8,
+    count: u8,
+    digits: [u8; 15],
+) -> Row
     ensures { λ row. ⌜ row ≡ openedRow (r .0) leg d presentation count digits ⌝ }
 {
     let state = first_state(d);
@@ -98,7 +105,15 @@ fn opened_row(r: CallReference, leg: u32, d: Direction, presentation: u8, count:
     }
 }
 
-fn open(board: Board, r: CallReference, l: u32, d: Direction, p: u8, n: u8, digits: [u8; 15]) -> Effect
+fn open(
+    board: Board,
+    r: CallReference,
+    l: u32,
+    d: Direction,
+    p: u8,
+    n: u8,
+    digits: [u8; 15],
+) -> Effect
     ensures { λ e. ⌜ Carries e board (decideOpen (any (hasLeg l) (taken (board .rows))) (any (hasReference (r .0)) (taken (board .rows))) (full (board .rows)) (OpenLeg l (opened (r .0) d) p n digits)) ⌝ }
 {
     let FoundEntry::Nothing = entry_at(board, l) else {
@@ -300,7 +315,13 @@ fn far_party(board: Board, party: Party) -> FarParty
     }
 }
 
-fn transfer(board: Board, party: Party, first: Party, second: Party, identifier: IntegerOctets) -> Effect
+fn transfer(
+    board: Board,
+    party: Party,
+    first: Party,
+    second: Party,
+    identifier: IntegerOctets,
+) -> Effect
     ensures { λ r. ⌜ Carries r board (ServeCall party (Service.Transfer first second identifier)) ⌝ }
 {
     let call = party.call;
@@ -321,7 +342,10 @@ fn assign(board: Board, party: Party, id: LinkId, identifier: IntegerOctets) -> 
     let reference = call.reference;
     let changed = change(board, Change::SetLinkId(reference, id));
     let candidate = id.next();
-    let after = Board { candidate, ..changed };
+    let after = Board {
+        candidate,
+        ..changed
+    };
     Effect {
         verdict: Verdict::Accepted,
         board: after,
@@ -361,7 +385,11 @@ fn facility(board: Board, reference: CallReference, component: &[u8]) -> Effect
     let FoundParty::This(party) = named(board, reference) else {
         return refuse(board, Refusal::NoSuchCall);
     };
-    carry_out(board, party, serve(board, party, component::read(component)))
+    carry_out(
+        board,
+        party,
+        serve(board, party, component::read(component)),
+    )
 }
 
 // What the event comes to on the board, where board and buffer are in order.
@@ -376,7 +404,15 @@ pub fn effect_of(board: Board, event: &[u8]) -> Effect
             direction,
             presentation,
             count,
-        } => open(board, reference, leg, direction, presentation, count, digits_of(event)),
+        } => open(
+            board,
+            reference,
+            leg,
+            direction,
+            presentation,
+            count,
+            digits_of(event),
+        ),
         RequestHead::Progress(reference, state) => progress(board, reference, state),
         RequestHead::Hold(reference, auxiliary) => hold(board, reference, auxiliary),
         RequestHead::Release(leg) => release(board, leg),
