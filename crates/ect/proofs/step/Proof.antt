@@ -16,7 +16,9 @@ sound-requires : tie.Need-sound-requires
 sound-requires c κs = search needs
 
 returns-2 : tie.Need-returns-2
-returns-2 c = not-sound (c .before .before .before .before .before .args .board) (c .before .before .before .before .before .args .event .now) (c .before .before .before .before .before .args .reply .now) (omega arith) (told (c .before .sound .ensures) (is-not (c .if2 .taken)))
+returns-2 c =
+    let s = c .before .before .before .before .before in
+    not-sound (s .args .board) (s .args .event .now) (s .args .reply .now) (omega arith) (told (c .before .sound .ensures) (is-not (c .if2 .taken)))
 
 effect-of-requires : tie.Need-effect-of-requires
 effect-of-requires c κs = search needs

@@ -21,7 +21,12 @@ refuse-requires : tie.Need-refuse-requires
 refuse-requires c κs = search needs
 
 returns : tie.Need-returns
-returns c = answer-none (entryAt (c .before .before .before .before .args .leg) (taken (c .before .before .before .before .args .board .rows))) (c .before .before .before .before .args .leg) (entry-none (entryAt (c .before .before .before .before .args .leg) (taken (c .before .before .before .before .args .board .rows))) (told (c .before .before .before .entry-at .ensures) (c .before .enum-told .given .1))) (c .refuse .ensures)
+returns c =
+    let s = c .before .before .before .before in
+    answer-none (entryAt (s .args .leg) (taken (s .args .board .rows))) (s .args .leg)
+    (entry-none (entryAt (s .args .leg) (taken (s .args .board .rows)))
+    (told (c .before .before .before .entry-at .ensures) (c .before .enum-told .given .1)))
+    (c .refuse .ensures)
 
 enum-known-connection : tie.Need-enum-known-connection
 enum-known-connection c = search needs
@@ -33,7 +38,12 @@ refuse-requires-2 : tie.Need-refuse-requires-2
 refuse-requires-2 c κs = search needs
 
 returns-2 : tie.Need-returns-2
-returns-2 c = answer-some (entryAt (c .before .before .before .before .before .before .before .args .leg) (taken (c .before .before .before .before .before .before .before .args .board .rows))) (c .before .before .before .before .before .before .before .args .leg) _ (entry-some (entryAt (c .before .before .before .before .before .before .before .args .leg) (taken (c .before .before .before .before .before .before .before .args .board .rows))) (told (c .before .before .before .before .before .before .entry-at .ensures) (c .before .before .before .before .entry .given .1))) (c .before .enum-told2 .given .1) (c .refuse2 .ensures)
+returns-2 c =
+    let s = c .before .before .before .before .before .before .before in
+    answer-some (entryAt (s .args .leg) (taken (s .args .board .rows))) (s .args .leg) _
+    (entry-some (entryAt (s .args .leg) (taken (s .args .board .rows)))
+    (told (c .before .before .before .before .before .before .entry-at .ensures) (c .before .before .before .before .entry .given .1)))
+    (c .before .enum-told2 .given .1) (c .refuse2 .ensures)
 
 change-requires : tie.Need-change-requires
 change-requires c κs = search needs
@@ -48,13 +58,32 @@ push-answer-told-requires : tie.Need-push-answer-told-requires
 push-answer-told-requires c κs = search needs
 
 returns-3 : tie.Need-returns-3
-returns-3 c = answer-some (entryAt (c .before .before .before .before .before .before .before .before .before .before .before .before .args .leg) (taken (c .before .before .before .before .before .before .before .before .before .before .before .before .args .board .rows))) (c .before .before .before .before .before .before .before .before .before .before .before .before .args .leg) _ (entry-some (entryAt (c .before .before .before .before .before .before .before .before .before .before .before .before .args .leg) (taken (c .before .before .before .before .before .before .before .before .before .before .before .before .args .board .rows))) (told (c .before .before .before .before .before .before .before .before .before .before .before .entry-at .ensures) (c .before .before .before .before .before .before .before .before .before .entry .given .1))) (c .before .before .before .before .before .before .connection .given .1) (alerting-yes (entryAt (c .before .before .before .before .before .before .before .before .before .before .before .before .args .leg) (taken (c .before .before .before .before .before .before .before .before .before .before .before .before .args .board .rows))) (c .before .before .before .before .before .before .before .before .before .before .before .before .args .leg) (c .before .before .before .before .before .before .connection .given .0 .0) (c .before .before .before .before .before .before .connection .given .0 .1 .0) (c .before .before .before .before .if1 .taken) (alerting-ended (c .before .before .before .before .before .before .before .before .before .before .before .before .args .board) (c .before .before .before .before .before .before .before .before .before .before .before .before .args .leg) (c .before .before .before .before .before .before .connection .given .0 .0) (c .before .before .before .change .ensures) (c .before .before .empty .ensures) (c .before .number-at .ensures) (c .push-answer-told .ensures)))
+returns-3 c =
+    let s = c .before .before .before .before .before .before .before .before .before .before .before .before in
+    answer-some (entryAt (s .args .leg) (taken (s .args .board .rows))) (s .args .leg) _
+    (entry-some (entryAt (s .args .leg) (taken (s .args .board .rows)))
+    (told (c .before .before .before .before .before .before .before .before .before .before .before .entry-at .ensures)
+    (c .before .before .before .before .before .before .before .before .before .entry .given .1)))
+    (c .before .before .before .before .before .before .connection .given .1)
+    (alerting-yes (entryAt (s .args .leg) (taken (s .args .board .rows))) (s .args .leg)
+    (c .before .before .before .before .before .before .connection .given .0 .0)
+    (c .before .before .before .before .before .before .connection .given .0 .1 .0) (c .before .before .before .before .if1 .taken)
+    (alerting-ended (s .args .board) (s .args .leg) (c .before .before .before .before .before .before .connection .given .0 .0)
+    (c .before .before .before .change .ensures) (c .before .before .empty .ensures) (c .before .number-at .ensures) (c .push-answer-told .ensures)))
 
 refuse-requires-3 : tie.Need-refuse-requires-3
 refuse-requires-3 c κs = search needs
 
 returns-4 : tie.Need-returns-4
-returns-4 c = answer-some (entryAt (c .before .before .before .before .before .before .before .before .before .args .leg) (taken (c .before .before .before .before .before .before .before .before .before .args .board .rows))) (c .before .before .before .before .before .before .before .before .before .args .leg) _ (entry-some (entryAt (c .before .before .before .before .before .before .before .before .before .args .leg) (taken (c .before .before .before .before .before .before .before .before .before .args .board .rows))) (told (c .before .before .before .before .before .before .before .before .entry-at .ensures) (c .before .before .before .before .before .before .entry .given .1))) (c .before .before .before .connection .given .1) (alerting-no (entryAt (c .before .before .before .before .before .before .before .before .before .args .leg) (taken (c .before .before .before .before .before .before .before .before .before .args .board .rows))) (c .before .before .before .before .before .before .before .before .before .args .leg) (c .before .before .before .connection .given .0 .0) (c .before .before .before .connection .given .0 .1 .0) (c .before .if1 .left) (c .refuse3 .ensures))
+returns-4 c =
+    let s = c .before .before .before .before .before .before .before .before .before in
+    answer-some (entryAt (s .args .leg) (taken (s .args .board .rows))) (s .args .leg) _
+    (entry-some (entryAt (s .args .leg) (taken (s .args .board .rows)))
+    (told (c .before .before .before .before .before .before .before .before .entry-at .ensures)
+    (c .before .before .before .before .before .before .entry .given .1)))
+    (c .before .before .before .connection .given .1)
+    (alerting-no (entryAt (s .args .leg) (taken (s .args .board .rows))) (s .args .leg) (c .before .before .before .connection .given .0 .0)
+    (c .before .before .before .connection .given .0 .1 .0) (c .before .if1 .left) (c .refuse3 .ensures))
 
 pub answer-spec : {M : Type 1} → statement M
 answer-spec =

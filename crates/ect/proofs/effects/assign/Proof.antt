@@ -16,7 +16,10 @@ push-reply-requires : tie.Need-push-reply-requires
 push-reply-requires c κs = search needs
 
 returns : tie.Need-returns
-returns c = assigned-link (c .before .before .before .before .before .before .before .before .args .board) (c .before .before .before .before .before .before .before .before .args .party) (c .before .before .before .before .before .before .before .before .args .id) (c .before .before .before .before .before .before .before .before .args .identifier) (c .before .before .before .before .before .change .ensures) (c .before .before .before .before .next .ensures) (c .before .empty .ensures) (c .push-reply .ensures)
+returns c =
+    let s = c .before .before .before .before .before .before .before .before in
+    assigned-link (s .args .board) (s .args .party) (s .args .id) (s .args .identifier) (c .before .before .before .before .before .change .ensures)
+    (c .before .before .before .before .next .ensures) (c .before .empty .ensures) (c .push-reply .ensures)
 
 pub assign-spec : {M : Type 1} → statement M
 assign-spec =

@@ -32,10 +32,15 @@ transfer-requires : tie.Need-transfer-requires
 transfer-requires c κs = search needs
 
 returns : tie.Need-returns
-returns c = service-is (c .before .before .before .before .before .args .party) (sym (c .before .enum-told .given .1)) (served-silent (c .before .before .before .before .before .args .board) (c .before .before .before .before .before .args .party) (c .empty .ensures))
+returns c =
+    let s = c .before .before .before .before .before in
+    service-is (s .args .party) (sym (c .before .enum-told .given .1)) (served-silent (s .args .board) (s .args .party) (c .empty .ensures))
 
 returns-2 : tie.Need-returns-2
-returns-2 c = service-is (c .before .before .before .before .before .before .before .args .party) (sym (c .before .before .before .service .given .1)) (responded (c .before .before .before .before .before .before .before .args .board) (c .before .before .before .before .before .before .before .args .party) (c .before .before .before .service .given .0 .0) (c .before .empty2 .ensures) (c .push-reply .ensures))
+returns-2 c =
+    let s = c .before .before .before .before .before .before .before in
+    service-is (s .args .party) (sym (c .before .before .before .service .given .1))
+    (responded (s .args .board) (s .args .party) (c .before .before .before .service .given .0 .0) (c .before .empty2 .ensures) (c .push-reply .ensures))
 
 returns-3 : tie.Need-returns-3
 returns-3 c = service-is (c .before .before .before .before .before .before .args .party) (sym (c .before .before .service2 .given .1)) (c .assign .ensures)

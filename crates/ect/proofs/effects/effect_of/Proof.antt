@@ -70,31 +70,60 @@ answer-requires c κs = search needs
 
 returns : tie.Need-returns
 unfolding decide
-returns c = by-request (c .before .before .before .before .before .before .args .board) (c .before .before .before .before .before .before .args .event .now) _ (said (c .before .before .before .before .read-request .ensures) (c .before .before .refusal .given .1)) (c .refuse .ensures)
+returns c =
+    let s = c .before .before .before .before .before .before in
+    by-request (s .args .board) (s .args .event .now) _
+    (said (c .before .before .before .before .read-request .ensures) (c .before .before .refusal .given .1)) (c .refuse .ensures)
 
 returns-2 : tie.Need-returns-2
 unfolding decide
-returns-2 c = by-request (c .before .before .before .before .before .before .before .args .board) (c .before .before .before .before .before .before .before .args .event .now) _ (said (c .before .before .before .before .before .read-request .ensures) (c .before .before .before .reference .given .1)) (rw (c .before .digits-of .ensures ∙ digits-are (c .before .before .before .before .before .before .before .args .event .now) (open-length (c .before .before .before .before .before .read-request .ensures) (c .before .before .before .reference .given .1))) at (c .«open» .ensures))
+returns-2 c =
+    let s = c .before .before .before .before .before .before .before in
+    by-request (s .args .board) (s .args .event .now) _
+    (said (c .before .before .before .before .before .read-request .ensures) (c .before .before .before .reference .given .1))
+    (rw
+    (c .before .digits-of .ensures
+    ∙ digits-are (s .args .event .now)
+    (open-length (c .before .before .before .before .before .read-request .ensures) (c .before .before .before .reference .given .1)))
+    at (c .«open» .ensures))
 
 returns-3 : tie.Need-returns-3
 unfolding decide
-returns-3 c = by-request (c .before .before .before .before .before .before .args .board) (c .before .before .before .before .before .before .args .event .now) _ (said (c .before .before .before .before .read-request .ensures) (c .before .before .reference2 .given .1)) (c .progress .ensures)
+returns-3 c =
+    let s = c .before .before .before .before .before .before in
+    by-request (s .args .board) (s .args .event .now) _
+    (said (c .before .before .before .before .read-request .ensures) (c .before .before .reference2 .given .1)) (c .progress .ensures)
 
 returns-4 : tie.Need-returns-4
 unfolding decide
-returns-4 c = by-request (c .before .before .before .before .before .before .args .board) (c .before .before .before .before .before .before .args .event .now) _ (said (c .before .before .before .before .read-request .ensures) (c .before .before .reference3 .given .1)) (c .hold .ensures)
+returns-4 c =
+    let s = c .before .before .before .before .before .before in
+    by-request (s .args .board) (s .args .event .now) _
+    (said (c .before .before .before .before .read-request .ensures) (c .before .before .reference3 .given .1)) (c .hold .ensures)
 
 returns-5 : tie.Need-returns-5
 unfolding decide
-returns-5 c = by-request (c .before .before .before .before .before .before .args .board) (c .before .before .before .before .before .before .args .event .now) _ (said (c .before .before .before .before .read-request .ensures) (c .before .before .leg .given .1)) (c .release .ensures)
+returns-5 c =
+    let s = c .before .before .before .before .before .before in
+    by-request (s .args .board) (s .args .event .now) _
+    (said (c .before .before .before .before .read-request .ensures) (c .before .before .leg .given .1)) (c .release .ensures)
 
 returns-6 : tie.Need-returns-6
 unfolding decide
-returns-6 c = by-request (c .before .before .before .before .before .before .before .args .board) (c .before .before .before .before .before .before .before .args .event .now) _ (said (c .before .before .before .before .before .read-request .ensures) (c .before .before .before .reference4 .given .1)) (component-is (c .before .before .before .before .before .before .before .args .board .options) (c .before .before .before .before .before .before .before .args .board .candidate .0) (taken (c .before .before .before .before .before .before .before .args .board .rows)) (named (c .before .before .before .reference4 .given .0 .0 .0) (taken (c .before .before .before .before .before .before .before .args .board .rows))) (component-part (c .before .before .before .reference4 .given .0 .1 .0) (c .before .before .before .before .before .before .before .args .event .now)) (c .facility .ensures))
+returns-6 c =
+    let s = c .before .before .before .before .before .before .before in
+    by-request (s .args .board) (s .args .event .now) _
+    (said (c .before .before .before .before .before .read-request .ensures) (c .before .before .before .reference4 .given .1))
+    (component-is (s .args .board .options) (s .args .board .candidate .0) (taken (s .args .board .rows))
+    (named (c .before .before .before .reference4 .given .0 .0 .0) (taken (s .args .board .rows)))
+    (component-part (c .before .before .before .reference4 .given .0 .1 .0) (s .args .event .now)) (c .facility .ensures))
 
 returns-7 : tie.Need-returns-7
 unfolding decide
-returns-7 c = by-request (c .before .before .before .before .before .before .args .board) (c .before .before .before .before .before .before .args .event .now) _ (said (c .before .before .before .before .read-request .ensures) (c .before .before .leg2 .given .1)) (c .answer .ensures)
+returns-7 c =
+    let s = c .before .before .before .before .before .before in
+    by-request (s .args .board) (s .args .event .now) _
+    (said (c .before .before .before .before .read-request .ensures) (c .before .before .leg2 .given .1)) (c .answer .ensures)
 
 pub effect-of-spec : {M : Type 1} → statement M
 effect-of-spec =

@@ -22,7 +22,13 @@ refuse-requires : tie.Need-refuse-requires
 refuse-requires c κs = search needs
 
 returns : tie.Need-returns
-returns c = facility-none (c .before .before .before .before .before .args .board .options) (c .before .before .before .before .before .args .board .candidate .0) (taken (c .before .before .before .before .before .args .board .rows)) (c .before .before .before .before .before .args .component .now) (named (c .before .before .before .before .before .args .reference .0) (taken (c .before .before .before .before .before .args .board .rows))) (party-none (named (c .before .before .before .before .before .args .reference .0) (taken (c .before .before .before .before .before .args .board .rows))) (told (c .before .before .before .named .ensures) (c .before .enum-told .given .1))) (c .refuse .ensures)
+returns c =
+    let s = c .before .before .before .before .before in
+    facility-none (s .args .board .options) (s .args .board .candidate .0) (taken (s .args .board .rows)) (s .args .component .now)
+    (named (s .args .reference .0) (taken (s .args .board .rows)))
+    (party-none (named (s .args .reference .0) (taken (s .args .board .rows)))
+    (told (c .before .before .before .named .ensures) (c .before .enum-told .given .1)))
+    (c .refuse .ensures)
 
 read-requires : tie.Need-read-requires
 read-requires c κs = search needs
@@ -34,7 +40,19 @@ carry-out-requires : tie.Need-carry-out-requires
 carry-out-requires c κs = search needs
 
 returns-2 : tie.Need-returns-2
-returns-2 c = facility-some (c .before .before .before .before .before .before .before .before .args .board .options) (c .before .before .before .before .before .before .before .before .args .board .candidate .0) (taken (c .before .before .before .before .before .before .before .before .args .board .rows)) (c .before .before .before .before .before .before .before .before .args .component .now) (named (c .before .before .before .before .before .before .before .before .args .reference .0) (taken (c .before .before .before .before .before .before .before .before .args .board .rows))) (party-some (named (c .before .before .before .before .before .before .before .before .args .reference .0) (taken (c .before .before .before .before .before .before .before .before .args .board .rows))) (told (c .before .before .before .before .before .before .named .ensures) (c .before .before .before .before .party .given .1))) (service-is (c .before .before .before .before .party .given .0 .0) (c .before .serve .ensures ∙ ap (serve (c .before .before .before .before .before .before .before .before .args .board .options) (c .before .before .before .before .before .before .before .before .args .board .candidate .0) (calls (taken (c .before .before .before .before .before .before .before .before .args .board .rows))) (c .before .before .before .before .party .given .0 .0)) (c .before .before .read .ensures)) (c .carry-out .ensures))
+returns-2 c =
+    let s = c .before .before .before .before .before .before .before .before in
+    facility-some (s .args .board .options) (s .args .board .candidate .0) (taken (s .args .board .rows)) (s .args .component .now)
+    (named (s .args .reference .0) (taken (s .args .board .rows)))
+    (party-some (named (s .args .reference .0) (taken (s .args .board .rows)))
+    (told (c .before .before .before .before .before .before .named .ensures) (c .before .before .before .before .party .given .1)))
+    (service-is (c .before .before .before .before .party .given .0 .0)
+    (c .before .serve .ensures
+    ∙ ap
+    (serve (s .args .board .options) (s .args .board .candidate .0) (calls (taken (s .args .board .rows)))
+    (c .before .before .before .before .party .given .0 .0))
+    (c .before .before .read .ensures))
+    (c .carry-out .ensures))
 
 pub facility-spec : {M : Type 1} → statement M
 facility-spec =

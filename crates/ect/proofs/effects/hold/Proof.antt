@@ -21,7 +21,12 @@ refuse-requires : tie.Need-refuse-requires
 refuse-requires c κs = search needs
 
 returns : tie.Need-returns
-returns c = hold-none (c .before .before .before .before .args .reference .0) (c .before .before .before .before .args .auxiliary) (named (c .before .before .before .before .args .reference .0) (taken (c .before .before .before .before .args .board .rows))) (party-none (named (c .before .before .before .before .args .reference .0) (taken (c .before .before .before .before .args .board .rows))) (told (c .before .before .before .named .ensures) (c .before .enum-told .given .1))) (c .refuse .ensures)
+returns c =
+    let s = c .before .before .before .before in
+    hold-none (s .args .reference .0) (s .args .auxiliary) (named (s .args .reference .0) (taken (s .args .board .rows)))
+    (party-none (named (s .args .reference .0) (taken (s .args .board .rows)))
+    (told (c .before .before .before .named .ensures) (c .before .enum-told .given .1)))
+    (c .refuse .ensures)
 
 is-holdable-requires : tie.Need-is-holdable-requires
 is-holdable-requires c κs = search needs
@@ -36,13 +41,26 @@ empty-requires : tie.Need-empty-requires
 empty-requires c κs = search needs
 
 returns-2 : tie.Need-returns-2
-returns-2 c = hold-yes (c .before .before .before .before .before .before .before .before .before .before .args .reference .0) (c .before .before .before .before .before .before .before .before .before .before .args .auxiliary) (named (c .before .before .before .before .before .before .before .before .before .before .args .reference .0) (taken (c .before .before .before .before .before .before .before .before .before .before .args .board .rows))) (party-some (named (c .before .before .before .before .before .before .before .before .before .before .args .reference .0) (taken (c .before .before .before .before .before .before .before .before .before .before .args .board .rows))) (told (c .before .before .before .before .before .before .before .before .before .named .ensures) (c .before .before .before .before .before .before .before .party .given .1))) (rw (c .before .before .before .before .is-holdable .ensures, c .before .before .before .may-hold .ensures) at (c .before .before .if1 .taken)) (auxiliary-set (c .before .before .before .before .before .before .before .before .before .before .args .board) (c .before .before .before .before .before .before .before .before .before .before .args .reference) (c .before .before .before .before .before .before .before .before .before .before .args .auxiliary) (c .before .change .ensures) (c .empty .ensures))
+returns-2 c =
+    let s = c .before .before .before .before .before .before .before .before .before .before in
+    hold-yes (s .args .reference .0) (s .args .auxiliary) (named (s .args .reference .0) (taken (s .args .board .rows)))
+    (party-some (named (s .args .reference .0) (taken (s .args .board .rows)))
+    (told (c .before .before .before .before .before .before .before .before .before .named .ensures)
+    (c .before .before .before .before .before .before .before .party .given .1)))
+    (rw (c .before .before .before .before .is-holdable .ensures, c .before .before .before .may-hold .ensures) at (c .before .before .if1 .taken))
+    (auxiliary-set (s .args .board) (s .args .reference) (s .args .auxiliary) (c .before .change .ensures) (c .empty .ensures))
 
 refuse-requires-2 : tie.Need-refuse-requires-2
 refuse-requires-2 c κs = search needs
 
 returns-3 : tie.Need-returns-3
-returns-3 c = hold-no (c .before .before .before .before .before .before .before .before .before .args .reference .0) (c .before .before .before .before .before .before .before .before .before .args .auxiliary) (named (c .before .before .before .before .before .before .before .before .before .args .reference .0) (taken (c .before .before .before .before .before .before .before .before .before .args .board .rows))) (party-some (named (c .before .before .before .before .before .before .before .before .before .args .reference .0) (taken (c .before .before .before .before .before .before .before .before .before .args .board .rows))) (told (c .before .before .before .before .before .before .before .before .named .ensures) (c .before .before .before .before .before .before .party .given .1))) (rw (c .before .before .before .is-holdable .ensures, c .before .before .may-hold .ensures) at (c .before .if1 .left)) (c .refuse2 .ensures)
+returns-3 c =
+    let s = c .before .before .before .before .before .before .before .before .before in
+    hold-no (s .args .reference .0) (s .args .auxiliary) (named (s .args .reference .0) (taken (s .args .board .rows)))
+    (party-some (named (s .args .reference .0) (taken (s .args .board .rows)))
+    (told (c .before .before .before .before .before .before .before .before .named .ensures)
+    (c .before .before .before .before .before .before .party .given .1)))
+    (rw (c .before .before .before .is-holdable .ensures, c .before .before .may-hold .ensures) at (c .before .if1 .left)) (c .refuse2 .ensures)
 
 pub hold-spec : {M : Type 1} → statement M
 hold-spec =

@@ -28,7 +28,10 @@ unknown-requires : tie.Need-unknown-requires
 unknown-requires c κs = search needs
 
 returns : tie.Need-returns
-returns c = c .unknown .ensures ∙ number-nowhere (c .before .before .before .before .args .leg) (c .before .before .before .before .args .t1 .rows) (told (c .before .before .before .find .ensures) (c .before .enum-told .given .1))
+returns c =
+    let s = c .before .before .before .before in
+    c .unknown .ensures
+    ∙ number-nowhere (s .args .leg) (s .args .t1 .rows) (told (c .before .before .before .find .ensures) (c .before .enum-told .given .1))
 
 mul-number-of : tie.Need-mul-number-of
 mul-number-of c = let h = below (c .before) in search needs
@@ -40,7 +43,11 @@ number-of-requires : tie.Need-number-of-requires
 number-of-requires c κs = search needs
 
 returns-2 : tie.Need-returns-2
-returns-2 c = c .number-of .ensures ∙ number-here (c .before .before .before .before .before .before .args .leg) (c .before .before .before .before .before .before .args .t1 .rows) (told (c .before .before .before .before .before .find .ensures) (c .before .before .before .i .given .1))
+returns-2 c =
+    let s = c .before .before .before .before .before .before in
+    c .number-of .ensures
+    ∙ number-here (s .args .leg) (s .args .t1 .rows)
+    (told (c .before .before .before .before .before .find .ensures) (c .before .before .before .i .given .1))
 
 pub number-at-spec : {M : Type 1} → statement M
 number-at-spec =

@@ -29,7 +29,14 @@ refuse-requires : tie.Need-refuse-requires
 refuse-requires c κs = search needs
 
 returns : tie.Need-returns
-returns c = open-leg-there (any (hasLeg (c .before .before .before .before .args .l)) (taken (c .before .before .before .before .args .board .rows))) (any (hasReference (c .before .before .before .before .args .r .0)) (taken (c .before .before .before .before .args .board .rows))) (full (c .before .before .before .before .args .board .rows)) (OpenLeg (c .before .before .before .before .args .l) (opened (c .before .before .before .before .args .r .0) (c .before .before .before .before .args .d)) (c .before .before .before .before .args .p) (c .before .before .before .before .args .n) (c .before .before .before .before .args .digits)) (leg-there (c .before .before .before .before .args .l) (taken (c .before .before .before .before .args .board .rows)) (entry-some (entryAt (c .before .before .before .before .args .l) (taken (c .before .before .before .before .args .board .rows))) (told (c .before .before .before .entry-at .ensures) (c .before .enum-told2 .given .1)))) (c .refuse .ensures)
+returns c =
+    let s = c .before .before .before .before in
+    open-leg-there (any (hasLeg (s .args .l)) (taken (s .args .board .rows))) (any (hasReference (s .args .r .0)) (taken (s .args .board .rows)))
+    (full (s .args .board .rows)) (OpenLeg (s .args .l) (opened (s .args .r .0) (s .args .d)) (s .args .p) (s .args .n) (s .args .digits))
+    (leg-there (s .args .l) (taken (s .args .board .rows))
+    (entry-some (entryAt (s .args .l) (taken (s .args .board .rows)))
+    (told (c .before .before .before .entry-at .ensures) (c .before .enum-told2 .given .1))))
+    (c .refuse .ensures)
 
 named-requires : tie.Need-named-requires
 named-requires c κs = search needs
@@ -44,7 +51,16 @@ refuse-requires-2 : tie.Need-refuse-requires-2
 refuse-requires-2 c κs = search needs
 
 returns-2 : tie.Need-returns-2
-returns-2 c = open-reference-there (any (hasLeg (c .before .before .before .before .before .before .before .args .l)) (taken (c .before .before .before .before .before .before .before .args .board .rows))) (any (hasReference (c .before .before .before .before .before .before .before .args .r .0)) (taken (c .before .before .before .before .before .before .before .args .board .rows))) (full (c .before .before .before .before .before .before .before .args .board .rows)) (OpenLeg (c .before .before .before .before .before .before .before .args .l) (opened (c .before .before .before .before .before .before .before .args .r .0) (c .before .before .before .before .before .before .before .args .d)) (c .before .before .before .before .before .before .before .args .p) (c .before .before .before .before .before .before .before .args .n) (c .before .before .before .before .before .before .before .args .digits)) (leg-not-there (c .before .before .before .before .before .before .before .args .l) (taken (c .before .before .before .before .before .before .before .args .board .rows)) (entry-none (entryAt (c .before .before .before .before .before .before .before .args .l) (taken (c .before .before .before .before .before .before .before .args .board .rows))) (told (c .before .before .before .before .before .before .entry-at .ensures) (c .before .before .before .before .enum-told .given .1)))) (reference-there (c .before .before .before .before .before .before .before .args .r .0) (taken (c .before .before .before .before .before .before .before .args .board .rows)) (party-some (named (c .before .before .before .before .before .before .before .args .r .0) (taken (c .before .before .before .before .before .before .before .args .board .rows))) (told (c .before .before .before .named .ensures) (c .before .enum-told4 .given .1)))) (c .refuse2 .ensures)
+returns-2 c =
+    let s = c .before .before .before .before .before .before .before in
+    open-reference-there (any (hasLeg (s .args .l)) (taken (s .args .board .rows))) (any (hasReference (s .args .r .0)) (taken (s .args .board .rows)))
+    (full (s .args .board .rows)) (OpenLeg (s .args .l) (opened (s .args .r .0) (s .args .d)) (s .args .p) (s .args .n) (s .args .digits))
+    (leg-not-there (s .args .l) (taken (s .args .board .rows))
+    (entry-none (entryAt (s .args .l) (taken (s .args .board .rows)))
+    (told (c .before .before .before .before .before .before .entry-at .ensures) (c .before .before .before .before .enum-told .given .1))))
+    (reference-there (s .args .r .0) (taken (s .args .board .rows))
+    (party-some (named (s .args .r .0) (taken (s .args .board .rows))) (told (c .before .before .before .named .ensures) (c .before .enum-told4 .given .1))))
+    (c .refuse2 .ensures)
 
 find-requires : tie.Need-find-requires
 find-requires c κs = search needs
@@ -59,7 +75,21 @@ refuse-requires-3 : tie.Need-refuse-requires-3
 refuse-requires-3 c κs = search needs
 
 returns-3 : tie.Need-returns-3
-returns-3 c = open-full (any (hasLeg (c .before .before .before .before .before .before .before .before .before .before .args .l)) (taken (c .before .before .before .before .before .before .before .before .before .before .args .board .rows))) (any (hasReference (c .before .before .before .before .before .before .before .before .before .before .args .r .0)) (taken (c .before .before .before .before .before .before .before .before .before .before .args .board .rows))) (full (c .before .before .before .before .before .before .before .before .before .before .args .board .rows)) (OpenLeg (c .before .before .before .before .before .before .before .before .before .before .args .l) (opened (c .before .before .before .before .before .before .before .before .before .before .args .r .0) (c .before .before .before .before .before .before .before .before .before .before .args .d)) (c .before .before .before .before .before .before .before .before .before .before .args .p) (c .before .before .before .before .before .before .before .before .before .before .args .n) (c .before .before .before .before .before .before .before .before .before .before .args .digits)) (leg-not-there (c .before .before .before .before .before .before .before .before .before .before .args .l) (taken (c .before .before .before .before .before .before .before .before .before .before .args .board .rows)) (entry-none (entryAt (c .before .before .before .before .before .before .before .before .before .before .args .l) (taken (c .before .before .before .before .before .before .before .before .before .before .args .board .rows))) (told (c .before .before .before .before .before .before .before .before .before .entry-at .ensures) (c .before .before .before .before .before .before .before .enum-told .given .1)))) (reference-not-there (c .before .before .before .before .before .before .before .before .before .before .args .r .0) (taken (c .before .before .before .before .before .before .before .before .before .before .args .board .rows)) (party-none (named (c .before .before .before .before .before .before .before .before .before .before .args .r .0) (taken (c .before .before .before .before .before .before .before .before .before .before .args .board .rows))) (told (c .before .before .before .before .before .before .named .ensures) (c .before .before .before .before .enum-told3 .given .1)))) (nowhere-full (c .before .before .before .before .before .before .before .before .before .before .args .board .rows) (found-nothing (placeFrom (matchesKey key.Empty) 0 (c .before .before .before .before .before .before .before .before .before .before .args .board .rows)) (told (c .before .before .before .find .ensures) (c .before .enum-told6 .given .1)))) (c .refuse3 .ensures)
+returns-3 c =
+    let s = c .before .before .before .before .before .before .before .before .before .before in
+    open-full (any (hasLeg (s .args .l)) (taken (s .args .board .rows))) (any (hasReference (s .args .r .0)) (taken (s .args .board .rows)))
+    (full (s .args .board .rows)) (OpenLeg (s .args .l) (opened (s .args .r .0) (s .args .d)) (s .args .p) (s .args .n) (s .args .digits))
+    (leg-not-there (s .args .l) (taken (s .args .board .rows))
+    (entry-none (entryAt (s .args .l) (taken (s .args .board .rows)))
+    (told (c .before .before .before .before .before .before .before .before .before .entry-at .ensures)
+    (c .before .before .before .before .before .before .before .enum-told .given .1))))
+    (reference-not-there (s .args .r .0) (taken (s .args .board .rows))
+    (party-none (named (s .args .r .0) (taken (s .args .board .rows)))
+    (told (c .before .before .before .before .before .before .named .ensures) (c .before .before .before .before .enum-told3 .given .1))))
+    (nowhere-full (s .args .board .rows)
+    (found-nothing (placeFrom (matchesKey key.Empty) 0 (s .args .board .rows))
+    (told (c .before .before .before .find .ensures) (c .before .enum-told6 .given .1))))
+    (c .refuse3 .ensures)
 
 opened-row-requires : tie.Need-opened-row-requires
 opened-row-requires c κs = search needs
@@ -71,7 +101,24 @@ empty-requires : tie.Need-empty-requires
 empty-requires c κs = search needs
 
 returns-4 : tie.Need-returns-4
-returns-4 c = open-done (any (hasLeg (c .before .before .before .before .before .before .before .before .before .before .before .before .args .l)) (taken (c .before .before .before .before .before .before .before .before .before .before .before .before .args .board .rows))) (any (hasReference (c .before .before .before .before .before .before .before .before .before .before .before .before .args .r .0)) (taken (c .before .before .before .before .before .before .before .before .before .before .before .before .args .board .rows))) (full (c .before .before .before .before .before .before .before .before .before .before .before .before .args .board .rows)) (OpenLeg (c .before .before .before .before .before .before .before .before .before .before .before .before .args .l) (opened (c .before .before .before .before .before .before .before .before .before .before .before .before .args .r .0) (c .before .before .before .before .before .before .before .before .before .before .before .before .args .d)) (c .before .before .before .before .before .before .before .before .before .before .before .before .args .p) (c .before .before .before .before .before .before .before .before .before .before .before .before .args .n) (c .before .before .before .before .before .before .before .before .before .before .before .before .args .digits)) (leg-not-there (c .before .before .before .before .before .before .before .before .before .before .before .before .args .l) (taken (c .before .before .before .before .before .before .before .before .before .before .before .before .args .board .rows)) (entry-none (entryAt (c .before .before .before .before .before .before .before .before .before .before .before .before .args .l) (taken (c .before .before .before .before .before .before .before .before .before .before .before .before .args .board .rows))) (told (c .before .before .before .before .before .before .before .before .before .before .before .entry-at .ensures) (c .before .before .before .before .before .before .before .before .before .enum-told .given .1)))) (reference-not-there (c .before .before .before .before .before .before .before .before .before .before .before .before .args .r .0) (taken (c .before .before .before .before .before .before .before .before .before .before .before .before .args .board .rows)) (party-none (named (c .before .before .before .before .before .before .before .before .before .before .before .before .args .r .0) (taken (c .before .before .before .before .before .before .before .before .before .before .before .before .args .board .rows))) (told (c .before .before .before .before .before .before .before .before .named .ensures) (c .before .before .before .before .before .before .enum-told3 .given .1)))) (somewhere-not-full (c .before .before .before .before .before .before .before .before .before .before .before .before .args .board .rows) (c .before .before .before .enum-told5 .given .0 .0) (found-at (placeFrom (matchesKey key.Empty) 0 (c .before .before .before .before .before .before .before .before .before .before .before .before .args .board .rows)) (c .before .before .before .enum-told5 .given .0 .0) (told (c .before .before .before .before .before .find .ensures) (c .before .before .before .enum-told5 .given .1)))) (opened-leg (c .before .before .before .before .before .before .before .before .before .before .before .before .args .board) (c .before .before .before .before .before .before .before .before .before .before .before .before .args .r .0) (c .before .before .before .before .before .before .before .before .before .before .before .before .args .l) (c .before .before .before .before .before .before .before .before .before .before .before .before .args .d) (c .before .before .before .before .before .before .before .before .before .before .before .before .args .p) (c .before .before .before .before .before .before .before .before .before .before .before .before .args .n) (c .before .before .before .before .before .before .before .before .before .before .before .before .args .digits) (c .before .open-row .ensures ∙ ap (λ (x : Row). withRows (enter x (c .before .before .before .before .before .before .before .before .before .before .before .before .args .board .rows)) (c .before .before .before .before .before .before .before .before .before .before .before .before .args .board)) (c .before .before .opened-row .ensures)) (c .empty .ensures))
+returns-4 c =
+    let s = c .before .before .before .before .before .before .before .before .before .before .before .before in
+    open-done (any (hasLeg (s .args .l)) (taken (s .args .board .rows))) (any (hasReference (s .args .r .0)) (taken (s .args .board .rows)))
+    (full (s .args .board .rows)) (OpenLeg (s .args .l) (opened (s .args .r .0) (s .args .d)) (s .args .p) (s .args .n) (s .args .digits))
+    (leg-not-there (s .args .l) (taken (s .args .board .rows))
+    (entry-none (entryAt (s .args .l) (taken (s .args .board .rows)))
+    (told (c .before .before .before .before .before .before .before .before .before .before .before .entry-at .ensures)
+    (c .before .before .before .before .before .before .before .before .before .enum-told .given .1))))
+    (reference-not-there (s .args .r .0) (taken (s .args .board .rows))
+    (party-none (named (s .args .r .0) (taken (s .args .board .rows)))
+    (told (c .before .before .before .before .before .before .before .before .named .ensures)
+    (c .before .before .before .before .before .before .enum-told3 .given .1))))
+    (somewhere-not-full (s .args .board .rows) (c .before .before .before .enum-told5 .given .0 .0)
+    (found-at (placeFrom (matchesKey key.Empty) 0 (s .args .board .rows)) (c .before .before .before .enum-told5 .given .0 .0)
+    (told (c .before .before .before .before .before .find .ensures) (c .before .before .before .enum-told5 .given .1))))
+    (opened-leg (s .args .board) (s .args .r .0) (s .args .l) (s .args .d) (s .args .p) (s .args .n) (s .args .digits)
+    (c .before .open-row .ensures ∙ ap (λ (x : Row). withRows (enter x (s .args .board .rows)) (s .args .board)) (c .before .before .opened-row .ensures))
+    (c .empty .ensures))
 
 pub open-spec : {M : Type 1} → statement M
 open-spec =

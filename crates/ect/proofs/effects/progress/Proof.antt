@@ -21,7 +21,12 @@ refuse-requires : tie.Need-refuse-requires
 refuse-requires c κs = search needs
 
 returns : tie.Need-returns
-returns c = progress-none (c .before .before .before .before .args .reference .0) (c .before .before .before .before .args .state) (named (c .before .before .before .before .args .reference .0) (taken (c .before .before .before .before .args .board .rows))) (party-none (named (c .before .before .before .before .args .reference .0) (taken (c .before .before .before .before .args .board .rows))) (told (c .before .before .before .named .ensures) (c .before .enum-told .given .1))) (c .refuse .ensures)
+returns c =
+    let s = c .before .before .before .before in
+    progress-none (s .args .reference .0) (s .args .state) (named (s .args .reference .0) (taken (s .args .board .rows)))
+    (party-none (named (s .args .reference .0) (taken (s .args .board .rows)))
+    (told (c .before .before .before .named .ensures) (c .before .enum-told .given .1)))
+    (c .refuse .ensures)
 
 may-progress-requires : tie.Need-may-progress-requires
 may-progress-requires c κs = search needs
@@ -33,13 +38,25 @@ empty-requires : tie.Need-empty-requires
 empty-requires c κs = search needs
 
 returns-2 : tie.Need-returns-2
-returns-2 c = progress-yes (c .before .before .before .before .before .before .before .before .before .args .reference .0) (c .before .before .before .before .before .before .before .before .before .args .state) (named (c .before .before .before .before .before .before .before .before .before .args .reference .0) (taken (c .before .before .before .before .before .before .before .before .before .args .board .rows))) (party-some (named (c .before .before .before .before .before .before .before .before .before .args .reference .0) (taken (c .before .before .before .before .before .before .before .before .before .args .board .rows))) (told (c .before .before .before .before .before .before .before .before .named .ensures) (c .before .before .before .before .before .before .party .given .1))) (told (c .before .before .before .may-progress .ensures) (c .before .before .if1 .taken)) (state-set (c .before .before .before .before .before .before .before .before .before .args .board) (c .before .before .before .before .before .before .before .before .before .args .reference) (c .before .before .before .before .before .before .before .before .before .args .state) (c .before .change .ensures) (c .empty .ensures))
+returns-2 c =
+    let s = c .before .before .before .before .before .before .before .before .before in
+    progress-yes (s .args .reference .0) (s .args .state) (named (s .args .reference .0) (taken (s .args .board .rows)))
+    (party-some (named (s .args .reference .0) (taken (s .args .board .rows)))
+    (told (c .before .before .before .before .before .before .before .before .named .ensures)
+    (c .before .before .before .before .before .before .party .given .1)))
+    (told (c .before .before .before .may-progress .ensures) (c .before .before .if1 .taken))
+    (state-set (s .args .board) (s .args .reference) (s .args .state) (c .before .change .ensures) (c .empty .ensures))
 
 refuse-requires-2 : tie.Need-refuse-requires-2
 refuse-requires-2 c κs = search needs
 
 returns-3 : tie.Need-returns-3
-returns-3 c = progress-no (c .before .before .before .before .before .before .before .before .args .reference .0) (c .before .before .before .before .before .before .before .before .args .state) (named (c .before .before .before .before .before .before .before .before .args .reference .0) (taken (c .before .before .before .before .before .before .before .before .args .board .rows))) (party-some (named (c .before .before .before .before .before .before .before .before .args .reference .0) (taken (c .before .before .before .before .before .before .before .before .args .board .rows))) (told (c .before .before .before .before .before .before .before .named .ensures) (c .before .before .before .before .before .party .given .1))) (told (c .before .before .may-progress .ensures) (c .before .if1 .left)) (c .refuse2 .ensures)
+returns-3 c =
+    let s = c .before .before .before .before .before .before .before .before in
+    progress-no (s .args .reference .0) (s .args .state) (named (s .args .reference .0) (taken (s .args .board .rows)))
+    (party-some (named (s .args .reference .0) (taken (s .args .board .rows)))
+    (told (c .before .before .before .before .before .before .before .named .ensures) (c .before .before .before .before .before .party .given .1)))
+    (told (c .before .before .may-progress .ensures) (c .before .if1 .left)) (c .refuse2 .ensures)
 
 pub progress-spec : {M : Type 1} → statement M
 progress-spec =

@@ -24,7 +24,12 @@ refuse-requires : tie.Need-refuse-requires
 refuse-requires c κs = search needs
 
 returns : tie.Need-returns
-returns c = release-none (entryAt (c .before .before .before .before .args .leg) (taken (c .before .before .before .before .args .board .rows))) (entry-none (entryAt (c .before .before .before .before .args .leg) (taken (c .before .before .before .before .args .board .rows))) (told (c .before .before .before .entry-at .ensures) (c .before .enum-told .given .1))) (c .refuse .ensures)
+returns c =
+    let s = c .before .before .before .before in
+    release-none (entryAt (s .args .leg) (taken (s .args .board .rows)))
+    (entry-none (entryAt (s .args .leg) (taken (s .args .board .rows)))
+    (told (c .before .before .before .entry-at .ensures) (c .before .enum-told .given .1)))
+    (c .refuse .ensures)
 
 enum-known-connection : tie.Need-enum-known-connection
 enum-known-connection c = search needs
@@ -51,10 +56,31 @@ push-gone-requires : tie.Need-push-gone-requires
 push-gone-requires c κs = search needs
 
 returns-2 : tie.Need-returns-2
-returns-2 c = release-some (entryAt (c .before .before .before .before .before .before .before .before .before .before .before .args .leg) (taken (c .before .before .before .before .before .before .before .before .before .before .before .args .board .rows))) (entry-some (entryAt (c .before .before .before .before .before .before .before .before .before .before .before .args .leg) (taken (c .before .before .before .before .before .before .before .before .before .before .before .args .board .rows))) (told (c .before .before .before .before .before .before .before .before .before .before .entry-at .ensures) (c .before .before .before .before .before .before .before .before .entry .given .1)) ∙ ap (λ (x : Connection). some (record { leg = c .before .before .before .before .before .before .before .before .entry .given .0 .0 .leg; connection = x })) (c .before .before .before .before .before .connection .given .1)) (call-released (c .before .before .before .before .before .before .before .before .before .before .before .args .board) (c .before .before .before .before .before .before .before .before .entry .given .0 .0 .leg) (c .before .before .before .before .before .connection .given .0 .0) (c .before .before .change .ensures) (c .before .empty .ensures) (c .push-drop .ensures))
+returns-2 c =
+    let s = c .before .before .before .before .before .before .before .before .before .before .before in
+    release-some (entryAt (s .args .leg) (taken (s .args .board .rows)))
+    (entry-some (entryAt (s .args .leg) (taken (s .args .board .rows)))
+    (told (c .before .before .before .before .before .before .before .before .before .before .entry-at .ensures)
+    (c .before .before .before .before .before .before .before .before .entry .given .1))
+    ∙ ap
+    (λ (x : Connection). some (record { leg = c .before .before .before .before .before .before .before .before .entry .given .0 .0 .leg; connection = x }))
+    (c .before .before .before .before .before .connection .given .1))
+    (call-released (s .args .board) (c .before .before .before .before .before .before .before .before .entry .given .0 .0 .leg)
+    (c .before .before .before .before .before .connection .given .0 .0) (c .before .before .change .ensures) (c .before .empty .ensures)
+    (c .push-drop .ensures))
 
 returns-3 : tie.Need-returns-3
-returns-3 c = release-some (entryAt (c .before .before .before .before .before .before .before .before .before .before .args .leg) (taken (c .before .before .before .before .before .before .before .before .before .before .args .board .rows))) (entry-some (entryAt (c .before .before .before .before .before .before .before .before .before .before .args .leg) (taken (c .before .before .before .before .before .before .before .before .before .before .args .board .rows))) (told (c .before .before .before .before .before .before .before .before .before .entry-at .ensures) (c .before .before .before .before .before .before .before .entry .given .1)) ∙ ap (λ (x : Connection). some (record { leg = c .before .before .before .before .before .before .before .entry .given .0 .0 .leg; connection = x })) (c .before .before .before .before .connection2 .given .1)) (pair-released (c .before .before .before .before .before .before .before .before .before .before .args .board) (c .before .before .before .before .before .before .before .entry .given .0 .0 .leg) (c .before .before .before .before .connection2 .given .0 .0) (c .before .before .before .before .connection2 .given .0 .1 .0) (c .before .before .change2 .ensures) (c .before .empty2 .ensures) (c .push-gone .ensures))
+returns-3 c =
+    let s = c .before .before .before .before .before .before .before .before .before .before in
+    release-some (entryAt (s .args .leg) (taken (s .args .board .rows)))
+    (entry-some (entryAt (s .args .leg) (taken (s .args .board .rows)))
+    (told (c .before .before .before .before .before .before .before .before .before .entry-at .ensures)
+    (c .before .before .before .before .before .before .before .entry .given .1))
+    ∙ ap (λ (x : Connection). some (record { leg = c .before .before .before .before .before .before .before .entry .given .0 .0 .leg; connection = x }))
+    (c .before .before .before .before .connection2 .given .1))
+    (pair-released (s .args .board) (c .before .before .before .before .before .before .before .entry .given .0 .0 .leg)
+    (c .before .before .before .before .connection2 .given .0 .0) (c .before .before .before .before .connection2 .given .0 .1 .0)
+    (c .before .before .change2 .ensures) (c .before .empty2 .ensures) (c .push-gone .ensures))
 
 pub release-spec : {M : Type 1} → statement M
 release-spec =

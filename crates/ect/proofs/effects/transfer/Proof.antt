@@ -19,7 +19,11 @@ push-transfer-requires : tie.Need-push-transfer-requires
 push-transfer-requires c κs = search needs
 
 returns : tie.Need-returns
-returns c = transferred-calls (c .before .before .before .before .before .before .before .args .board) (c .before .before .before .before .before .before .before .args .party) (c .before .before .before .before .before .before .before .args .first) (c .before .before .before .before .before .before .before .args .second) (c .before .before .before .before .before .before .before .args .identifier) (c .before .before .change .ensures) (c .before .before .before .before .far-party .ensures) (c .before .before .before .far-party2 .ensures) (c .before .empty .ensures) (c .push-transfer .ensures)
+returns c =
+    let s = c .before .before .before .before .before .before .before in
+    transferred-calls (s .args .board) (s .args .party) (s .args .first) (s .args .second) (s .args .identifier) (c .before .before .change .ensures)
+    (c .before .before .before .before .far-party .ensures) (c .before .before .before .far-party2 .ensures) (c .before .empty .ensures)
+    (c .push-transfer .ensures)
 
 pub transfer-spec : {M : Type 1} → statement M
 transfer-spec =
