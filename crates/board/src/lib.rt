@@ -73,7 +73,8 @@ pub struct Board {
     pub candidate: LinkId,
 }
 
-// What a row that is not empty says of its leg: its call with the served user, or its partner's leg and whether it still alerts.
+// What a row that is not empty says of its leg: its call with the served user,
+// or its partner's leg and whether it still alerts.
 pub enum Connection {
     WithUser(Call),
     WithPartner { partner: u32, alerting: bool },

@@ -6,12 +6,16 @@ use Rattle.board.specs.declared.Direction.{Direction}
 use Rattle.board.specs.declared.Standing.the-variants.{Served}
 use Rattle.board.specs.declared.Row.{Row}
 use Rattle.board.specs.declared.Board.{Board}
+use Rattle.octets.specs.Lists.{any}
+use Rattle.board.specs.Entries.{hasLeg, hasReference}
+use Rattle.board.specs.Changes.{full}
 use Rattle.rules.specs.Replies.{NamedFirst}
-use Rattle.rules.specs.Checks.{Decision, Refuse, OpenLeg, SetState, SetAuxiliary, ReleaseLeg, ServeCall, EndAlerting, opened}
+use Rattle.rules.specs.Checks.{Decision, Refuse, OpenLeg, SetState, SetAuxiliary, ReleaseLeg, ServeCall, EndAlerting, opened, named, decideOpen, decideFacility}
 use Rattle.rules.specs.Step.{boardAfter, replies}
 use Rattle.ect.specs.declared.effects.Verdict.{Verdict}
 use Rattle.ect.specs.declared.effects.Verdict.the-variants.{Accepted, Refused}
 use Rattle.ect.specs.declared.effects.Effect.{Effect}
+use Rattle.ect.specs.Parties.{entriesOf}
 use Rattle.ect.specs.ReplyValues.{Says}
 
 -- the row that an Open enters
@@ -33,3 +37,11 @@ pub record Carries (r : Effect) (b : Board) (d : Decision) : Type 0 where
   pub board : r .board ≡ boardAfter d b
   pub says : Says (r .out) (replies NamedFirst (b .rows) d)
   pub room : r .out .len ≤ 92
+
+-- what an Open and a Facility come to on the board, with the fields of their records
+abbrev pub openOn : Board → ℕ → ℕ → Direction → ℕ → ℕ → List ℕ → Decision
+openOn b r l d p n ds =
+    decideOpen (any (hasLeg l) (entriesOf b)) (any (hasReference r) (entriesOf b)) (full (b .rows)) (OpenLeg l (opened r d) p n ds)
+
+abbrev pub facilityOn : Board → ℕ → List ℕ → Decision
+facilityOn b r c = decideFacility (b .options) (b .candidate .0) (entriesOf b) c (named r (entriesOf b))

@@ -1,14 +1,27 @@
 -- The party of a row (document 01, "The board": "a call with the served user").
 use Prim.Native.Nat.{ℕ}
 use mathlib.Core.Bool.{Bool, true, false}
+use mathlib.Core.List.{List}
 use mathlib.Core.Option.{Option, none, some}
+use lib.IntN.{ℤ}
+use Rattle.octets.specs.declared.CallReference.{CallReference}
+use Rattle.octets.specs.declared.LinkId.{LinkId}
+use Rattle.octets.specs.declared.IntegerOctets.{IntegerOctets}
+use Rattle.octets.specs.Lists.{keep, find}
 use Rattle.octets.specs.Tests.{has}
+use Rattle.component.specs.declared.Operation.{Operation}
 use Rattle.board.specs.declared.Standing.{Standing}
 use Rattle.board.specs.declared.Standing.the-variants.{Empty, Served, Joined}
 use Rattle.board.specs.declared.Row.{Row}
 use Rattle.board.specs.declared.Options.{Options}
+use Rattle.board.specs.declared.Board.{Board}
+use Rattle.board.specs.declared.Entry.{Entry}
 use Rattle.board.specs.declared.Party.{Party}
-use Rattle.rules.specs.Serving.{partnerFor}
+use Rattle.board.specs.Entries.{taken, calls}
+use Rattle.board.specs.LinkIds.{freeLinkId}
+use Rattle.rules.specs.Serving.{partnerFor, live, hasLinkId, perform}
+use Rattle.rules.specs.declared.Service.{Service}
+use Rattle.rules.specs.Checks.{named}
 
 abbrev pub standingParty : ℕ → Standing → Option Party
 standingParty leg Empty = none
@@ -21,3 +34,28 @@ partyIn r = standingParty (r .leg) (r .standing)
 -- "other served call pairs with the named one": the row has such a call
 abbrev pub hasPartner : Options → Party → Row → Bool
 hasPartner o named row = has (partnerFor o named) (partyIn row)
+
+-- the rows taken of a board, and its calls with the served user
+abbrev pub entriesOf : Board → List Entry
+entriesOf b = taken (b .rows)
+
+abbrev pub partiesOf : Board → List Party
+partiesOf b = calls (entriesOf b)
+
+-- the LinkId that a request for one would give
+abbrev pub freeIn : Board → Option ℤ
+freeIn b = freeLinkId 16 (b .candidate .0) (live (partiesOf b))
+
+-- the call with a reference; the calls that pair with a named one; the call with a LinkId
+abbrev pub namedOn : Board → CallReference → Option Party
+namedOn b r = named (r .0) (entriesOf b)
+
+abbrev pub pairedOn : Board → Party → List Party
+pairedOn b p = keep (partnerFor (b .options) p) (partiesOf b)
+
+abbrev pub linkedOn : Board → LinkId → Option Party
+linkedOn b l = find (hasLinkId l) (partiesOf b)
+
+-- what an operation comes to on the board
+abbrev pub performedOn : Board → Party → IntegerOctets → Operation → Service
+performedOn b p i o = perform (b .options) (b .candidate .0) (partiesOf b) p i o

@@ -37,16 +37,14 @@ use octets::IntegerOctets;
 use octets::LinkId;
 use rules::Service;
 ghost use mathlib.Core.Path.{_≡_};
-ghost use Rattle.octets.specs.Lists.{any};
-ghost use Rattle.board.specs.Entries.{taken, hasLeg, hasReference};
-ghost use Rattle.board.specs.Changes.{full};
 ghost use Rattle.board.specs.States.{holdable};
 ghost use Rattle.rules.specs.Replies.{numberAt};
-ghost use Rattle.rules.specs.Checks.{Refuse, OpenLeg, ServeCall, firstState, opened, mayProgress, mayHold, named as namedIn, entryAt};
-ghost use Rattle.rules.specs.Checks.{decideOpen, decideProgress, decideHold, decideRelease, decideAnswer, decideFacility};
+ghost use Rattle.rules.specs.Checks.{Refuse, ServeCall, firstState, mayProgress, mayHold, entryAt};
+ghost use Rattle.rules.specs.Checks.{decideProgress, decideHold, decideRelease, decideAnswer};
 ghost use Rattle.rules.specs.Step.{decision};
+ghost use Rattle.ect.specs.Parties.{entriesOf, namedOn};
 ghost use Rattle.ect.specs.ReplyValues.{numberTold, Describes};
-ghost use Rattle.ect.specs.Effects.{Carries, openedRow};
+ghost use Rattle.ect.specs.Effects.{Carries, openedRow, openOn, facilityOn};
 
 pub enum Verdict {
     Accepted,
@@ -114,7 +112,7 @@ fn open(
     n: u8,
     digits: [u8; 15],
 ) -> Effect
-    ensures { λ e. ⌜ Carries e board (decideOpen (any (hasLeg l) (taken (board .rows))) (any (hasReference (r .0)) (taken (board .rows))) (full (board .rows)) (OpenLeg l (opened (r .0) d) p n digits)) ⌝ }
+    ensures { λ e. ⌜ Carries e board (openOn board (r .0) l d p n digits) ⌝ }
 {
     let FoundEntry::Nothing = entry_at(board, l) else {
         return refuse(board, Refusal::LegOnBoard);
@@ -164,7 +162,7 @@ fn may_progress(from: CallState, to: CallState) -> bool
 }
 
 fn progress(board: Board, reference: CallReference, state: CallState) -> Effect
-    ensures { λ r. ⌜ Carries r board (decideProgress (reference .0) state (namedIn (reference .0) (taken (board .rows)))) ⌝ }
+    ensures { λ r. ⌜ Carries r board (decideProgress (reference .0) state (namedOn board reference)) ⌝ }
 {
     let FoundParty::This(party) = named(board, reference) else {
         return refuse(board, Refusal::NoSuchCall);
@@ -224,7 +222,7 @@ fn may_hold(from: AuxiliaryState, to: AuxiliaryState) -> bool
 }
 
 fn hold(board: Board, reference: CallReference, auxiliary: AuxiliaryState) -> Effect
-    ensures { λ r. ⌜ Carries r board (decideHold (reference .0) auxiliary (namedIn (reference .0) (taken (board .rows)))) ⌝ }
+    ensures { λ r. ⌜ Carries r board (decideHold (reference .0) auxiliary (namedOn board reference)) ⌝ }
 {
     let FoundParty::This(party) = named(board, reference) else {
         return refuse(board, Refusal::NoSuchCall);
@@ -243,7 +241,7 @@ fn hold(board: Board, reference: CallReference, auxiliary: AuxiliaryState) -> Ef
 }
 
 fn release(board: Board, leg: u32) -> Effect
-    ensures { λ r. ⌜ Carries r board (decideRelease (entryAt leg (taken (board .rows)))) ⌝ }
+    ensures { λ r. ⌜ Carries r board (decideRelease (entryAt leg (entriesOf board))) ⌝ }
 {
     let FoundEntry::This(entry) = entry_at(board, leg) else {
         return refuse(board, Refusal::NoSuchLeg);
@@ -280,7 +278,7 @@ fn number_at(board: Board, leg: u32) -> Told
 }
 
 fn answer(board: Board, leg: u32) -> Effect
-    ensures { λ r. ⌜ Carries r board (decideAnswer leg (entryAt leg (taken (board .rows)))) ⌝ }
+    ensures { λ r. ⌜ Carries r board (decideAnswer leg (entryAt leg (entriesOf board))) ⌝ }
 {
     let FoundEntry::This(entry) = entry_at(board, leg) else {
         return refuse(board, Refusal::NoSuchLeg);
@@ -380,7 +378,7 @@ fn carry_out(board: Board, party: Party, service: Service) -> Effect
 }
 
 fn facility(board: Board, reference: CallReference, component: &[u8]) -> Effect
-    ensures { λ r. ⌜ Carries r board (decideFacility (board .options) (board .candidate .0) (taken (board .rows)) (now (component .entry)) (namedIn (reference .0) (taken (board .rows)))) ⌝ }
+    ensures { λ r. ⌜ Carries r board (facilityOn board (reference .0) (now (component .entry))) ⌝ }
 {
     let FoundParty::This(party) = named(board, reference) else {
         return refuse(board, Refusal::NoSuchCall);

@@ -14,12 +14,13 @@ ghost use mathlib.Core.Path.{_≡_};
 ghost use Prim.Native.Nat.{_≤_};
 ghost use lib.ListN.{drop};
 ghost use Rattle.octets.specs.Lists.{only, keep, placeFrom};
-ghost use Rattle.board.specs.States.{stateNumber, auxiliaryNumber, directionNumber, active, delivered, idle, held, outgoing};
-ghost use Rattle.board.specs.Entries.{taken, calls, foundParty};
+ghost use Rattle.board.specs.States.{stateNumber, auxiliaryNumber, directionNumber};
+ghost use Rattle.board.specs.States.{active, delivered, idle, held, outgoing};
+ghost use Rattle.board.specs.Entries.{foundParty};
 ghost use Rattle.board.specs.Lookup.{foundAt};
 ghost use Rattle.rules.specs.Pairing.{heldWithIdle, activeWithDelivered, verdict as verdictOf, pairs as pair};
 ghost use Rattle.rules.specs.Serving.{partnerFor};
-ghost use Rattle.ect.specs.Parties.{hasPartner};
+ghost use Rattle.ect.specs.Parties.{hasPartner, partiesOf};
 
 // The numbers of ETS 300 102-1.
 fn state_number(state: CallState) -> u8
@@ -157,7 +158,7 @@ fn partner_from(board: Board, named: Party, start: usize) -> Found
 
 // The other party that pairs with the named one, where there is exactly one.
 pub fn only_partner(board: Board, named: Party) -> FoundParty
-    ensures { λ r. ⌜ r ≡ foundParty (only (keep (partnerFor (board .options) named) (calls (taken (board .rows))))) ⌝ }
+    ensures { λ r. ⌜ r ≡ foundParty (only (keep (partnerFor (board .options) named) (partiesOf board))) ⌝ }
 {
     let Found::At(i) = partner_from(board, named, 0) else {
         return FoundParty::Nothing;

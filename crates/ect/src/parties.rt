@@ -14,10 +14,10 @@ use octets::CallReference;
 use octets::LinkId;
 ghost use mathlib.Core.Path.{_≡_};
 ghost use Rattle.octets.specs.Lists.{find as findIn};
-ghost use Rattle.board.specs.Entries.{taken, calls, rowEntry, foundEntry, foundParty};
+ghost use Rattle.board.specs.Entries.{rowEntry, foundEntry, foundParty};
 ghost use Rattle.rules.specs.Checks.{named as namedIn, entryAt};
 ghost use Rattle.rules.specs.Serving.{hasLinkId};
-ghost use Rattle.ect.specs.Parties.{partyIn};
+ghost use Rattle.ect.specs.Parties.{partyIn, entriesOf, partiesOf};
 
 // The party of a row with a call.
 pub fn party_of(row: Row) -> FoundParty
@@ -51,7 +51,7 @@ fn entry_of(row: Row) -> FoundEntry
 
 // The party whose call has the reference.
 pub fn named(board: Board, reference: CallReference) -> FoundParty
-    ensures { λ r. ⌜ r ≡ foundParty (namedIn (reference .0) (taken (board .rows))) ⌝ }
+    ensures { λ r. ⌜ r ≡ foundParty (namedIn (reference .0) (entriesOf board)) ⌝ }
 {
     let Found::At(i) = find(board, Key::Reference(reference)) else {
         return FoundParty::Nothing;
@@ -61,7 +61,7 @@ pub fn named(board: Board, reference: CallReference) -> FoundParty
 
 // The party whose call has the LinkId.
 pub fn linked(board: Board, id: LinkId) -> FoundParty
-    ensures { λ r. ⌜ r ≡ foundParty (findIn (hasLinkId id) (calls (taken (board .rows)))) ⌝ }
+    ensures { λ r. ⌜ r ≡ foundParty (findIn (hasLinkId id) (partiesOf board)) ⌝ }
 {
     let Found::At(i) = find(board, Key::LinkId(id)) else {
         return FoundParty::Nothing;
@@ -71,7 +71,7 @@ pub fn linked(board: Board, id: LinkId) -> FoundParty
 
 // The entry of the leg.
 pub fn entry_at(board: Board, leg: u32) -> FoundEntry
-    ensures { λ r. ⌜ r ≡ foundEntry (entryAt leg (taken (board .rows))) ⌝ }
+    ensures { λ r. ⌜ r ≡ foundEntry (entryAt leg (entriesOf board)) ⌝ }
 {
     let Found::At(i) = find(board, Key::Leg(leg)) else {
         return FoundEntry::Nothing;

@@ -16,11 +16,10 @@ use octets::LinkId;
 use rules::Service;
 ghost use mathlib.Core.Path.{_≡_};
 ghost use lib.ListN.{length};
-ghost use Rattle.octets.specs.Lists.{keep, find as findIn, only};
-ghost use Rattle.board.specs.Entries.{taken, calls};
-ghost use Rattle.board.specs.LinkIds.{freeLinkId};
-ghost use Rattle.rules.specs.Serving.{error, live, newLinkId, linkIdRequest, partyLinkId, partnerFor, hasLinkId};
-ghost use Rattle.rules.specs.Serving.{execute as executed, executeExplicitly, perform as performed, serve as served};
+ghost use Rattle.octets.specs.Lists.{only};
+ghost use Rattle.rules.specs.Serving.{error, live, newLinkId, linkIdRequest, partyLinkId};
+ghost use Rattle.rules.specs.Serving.{execute as executed, executeExplicitly, serve as served};
+ghost use Rattle.ect.specs.Parties.{partiesOf, pairedOn, linkedOn, performedOn, freeIn};
 
 // A general error, by its number.
 fn failed(identifier: IntegerOctets, number: u8) -> Service
@@ -30,7 +29,7 @@ fn failed(identifier: IntegerOctets, number: u8) -> Service
 }
 
 fn assign_link_id(board: Board, identifier: IntegerOctets) -> Service
-    ensures { λ r. ⌜ r ≡ newLinkId (length (live (calls (taken (board .rows))))) identifier (freeLinkId 16 (board .candidate .0) (live (calls (taken (board .rows))))) ⌝ }
+    ensures { λ r. ⌜ r ≡ newLinkId (length (live (partiesOf board))) identifier (freeIn board) ⌝ }
 {
     let rows = board.rows;
     let tally = add_up(rows);
@@ -44,7 +43,7 @@ fn assign_link_id(board: Board, identifier: IntegerOctets) -> Service
 }
 
 fn request_link_id(board: Board, named: Party, identifier: IntegerOctets) -> Service
-    ensures { λ r. ⌜ r ≡ linkIdRequest (board .candidate .0) (live (calls (taken (board .rows)))) identifier (partyLinkId named) ⌝ }
+    ensures { λ r. ⌜ r ≡ linkIdRequest (board .candidate .0) (live (partiesOf board)) identifier (partyLinkId named) ⌝ }
 {
     let call = named.call;
     let link = call.link;
@@ -55,7 +54,7 @@ fn request_link_id(board: Board, named: Party, identifier: IntegerOctets) -> Ser
 }
 
 fn execute(board: Board, named: Party, identifier: IntegerOctets) -> Service
-    ensures { λ r. ⌜ r ≡ executed named identifier (only (keep (partnerFor (board .options) named) (calls (taken (board .rows))))) ⌝ }
+    ensures { λ r. ⌜ r ≡ executed named identifier (only (pairedOn board named)) ⌝ }
 {
     let FoundParty::This(other) = only_partner(board, named) else {
         return failed(identifier, 7);
@@ -68,7 +67,7 @@ fn execute(board: Board, named: Party, identifier: IntegerOctets) -> Service
 }
 
 fn execute_explicitly(board: Board, named: Party, identifier: IntegerOctets, id: LinkId) -> Service
-    ensures { λ r. ⌜ r ≡ executeExplicitly (board .options) named identifier (findIn (hasLinkId id) (calls (taken (board .rows)))) ⌝ }
+    ensures { λ r. ⌜ r ≡ executeExplicitly (board .options) named identifier (linkedOn board id) ⌝ }
 {
     let FoundParty::This(other) = linked(board, id) else {
         return Service::Respond(Answer::LinkIdNotAssigned(identifier));
@@ -85,7 +84,7 @@ fn execute_explicitly(board: Board, named: Party, identifier: IntegerOctets, id:
 }
 
 fn perform(board: Board, named: Party, identifier: IntegerOctets, operation: Operation) -> Service
-    ensures { λ r. ⌜ r ≡ performed (board .options) (board .candidate .0) (calls (taken (board .rows))) named identifier operation ⌝ }
+    ensures { λ r. ⌜ r ≡ performedOn board named identifier operation ⌝ }
 {
     match operation {
         Operation::EctExecute => execute(board, named, identifier),
@@ -96,7 +95,7 @@ fn perform(board: Board, named: Party, identifier: IntegerOctets, operation: Ope
 
 // What the component of a Facility on the named call comes to.
 pub fn serve(board: Board, named: Party, reading: Reading) -> Service
-    ensures { λ r. ⌜ r ≡ served (board .options) (board .candidate .0) (calls (taken (board .rows))) named reading ⌝ }
+    ensures { λ r. ⌜ r ≡ served (board .options) (board .candidate .0) (partiesOf board) named reading ⌝ }
 {
     match reading {
         Reading::Ignored => Service::Silent,

@@ -36,7 +36,8 @@ use Rattle.events.specs.EventRecords.{Request, inRange}
 use Rattle.rules.specs.Pairing.{verdict, pairs, heldWithIdle}
 use Rattle.rules.specs.Serving.{live, sameCall, partnerFor, Transfer, Service}
 use Rattle.rules.specs.Situations.{call}
-use Rattle.octets.proofs.Lists.{pick-mem, mem-pick, any-has, right, all-at, true-not-false, eqb-eq, left, is-not, both, any-of, eqb-self, none-by, or-right, all-by, any-map, any-ext, distinct-map, all-map, all-ext, map-mem, length-keep-map, small-mem, find-mem, mem-keep, test, or-false, none-of, or-left, is-true, keep-map-le, from-true, eqb-of, neither, keep-mem, distinct-keep, keep-keep-le, mem-map, keep-none, eqb-sym}
+use Rattle.octets.proofs.Lists.{pick-mem, mem-pick, any-has, right, all-at, true-not-false, eqb-eq, left, is-not, both, any-of, eqb-self, none-by, or-right, all-by, any-map, any-ext, distinct-map, all-map, all-ext}
+use Rattle.octets.proofs.Lists.{map-mem, length-keep-map, small-mem, find-mem, mem-keep, test, or-false, none-of, or-left, is-true, keep-map-le, from-true, eqb-of, neither, keep-mem, distinct-keep, keep-keep-le, mem-map, keep-none, eqb-sym}
 use Rattle.octets.proofs.SameLinkId.{sameLinkId-eq, sameLinkId-self}
 use Rattle.octets.specs.Lists.{any, distinct, keep, consOpt, consIf}
 use Rattle.octets.specs.Numbers.{sameLinkId, nextLinkId}

@@ -42,6 +42,8 @@ pub record HistoryExamples : Type 0 where
   pub not-transferred : returns (fresh 1 0 .board) transferList ≡ 0 ∷ 0 ∷ 0 ∷ 0 ∷ 0 ∷ 6 ∷ 0 ∷ 0 ∷ []
   pub calls-stay : any (λ (e : Entry). isJoined (e .connection)) (taken (boardAt (fresh 1 0 .board) transferList .rows)) ≡ false
   -- the answer ends the alerting, and the release of one ends both
-  pub answered : taken (boardAt (fresh 1 1 .board) (transferList ++ (answerLeg 2 ∷ [])) .rows) ≡ entry 1 (WithPartner 2 false) ∷ entry 2 (WithPartner 1 false) ∷ []
+  pub answered :
+      taken (boardAt (fresh 1 1 .board) (transferList ++ (answerLeg 2 ∷ [])) .rows)
+      ≡ entry 1 (WithPartner 2 false) ∷ entry 2 (WithPartner 1 false) ∷ []
   pub released : taken (boardAt (fresh 1 1 .board) (transferList ++ (answerLeg 2 ∷ releaseLeg 1 ∷ [])) .rows) ≡ []
   pub released-book : bookAt (freshBook 1 1) (transferList ++ (answerLeg 2 ∷ releaseLeg 1 ∷ [])) .entries ≡ []

@@ -124,7 +124,13 @@ pub record Situations : Type 0 where
   pub execute-on-the-held-one : says (heldAndIdle 3) (facilityRecord ectExecute 1) ≡ errorOn 1 7
   pub execute-on-an-idle-one :
       says (heldAndIdle 3) (facilityRecord ectExecute 2)
-      ≡ answeredBy (Reply 2 (answer.Result (One 5)) ∷ Drop 2 ∷ Drop 1 ∷ Tell 2 facility transferredActive (markOnly 0) 1 ∷ Tell 1 facility transferredActive (markOnly 0) 1 ∷ [])
+      ≡ answeredBy
+      (Reply 2 (answer.Result (One 5))
+      ∷ Drop 2
+      ∷ Drop 1
+      ∷ Tell 2 facility transferredActive (markOnly 0) 1
+      ∷ Tell 1 facility transferredActive (markOnly 0) 1
+      ∷ [])
   -- "Buffer 127: refusal 1; 128: not."
   pub buffer-127 : step NamedFirst (heldAndIdle 2) (openRecord 3) 127 .returned ≡ 1
   pub buffer-128 : step NamedFirst (heldAndIdle 2) (openRecord 3) 128 .returned ≡ 0
@@ -147,12 +153,17 @@ workedOpen = 1 ∷ 0 ∷ 1 ∷ 0 ∷ 0 ∷ 0 ∷ 7 ∷ 0 ∷ 0 ∷ 2 ∷ 0x32 �
 abbrev pub workedRecords : List (List ℕ)
 workedRecords = workedOpen ∷ facilityRecord ectLinkIdRequest 1 ∷ facilityRecord ectLinkIdRequest 2 ∷ []
 
+-- a210020105300b0606040082710104020100
+abbrev pub workedComponent : List ℕ
+workedComponent =
+    0xa2 ∷ 0x10 ∷ 0x02 ∷ 0x01 ∷ 0x05 ∷ 0x30 ∷ 0x0b ∷ 0x06 ∷ 0x06 ∷ 0x04 ∷ 0x00 ∷ 0x82 ∷ 0x71 ∷ 0x01 ∷ 0x04 ∷ 0x02 ∷ 0x01 ∷ 0x00 ∷ []
+
 pub record WorkedLog : Type 0 where
   -- "1 1 0 -", "2 5 0 81000112a210020105300b060604008271010402010000..", "3 5 9 -"
   pub lines :
       log (fresh 1 0 .board) workedRecords
       ≡ (0 ∷ [])
-      ∷ (0 ∷ 0x81 ∷ 0x00 ∷ 0x01 ∷ 0x12 ∷ 0xa2 ∷ 0x10 ∷ 0x02 ∷ 0x01 ∷ 0x05 ∷ 0x30 ∷ 0x0b ∷ 0x06 ∷ 0x06 ∷ 0x04 ∷ 0x00 ∷ 0x82 ∷ 0x71 ∷ 0x01 ∷ 0x04 ∷ 0x02 ∷ 0x01 ∷ 0x00 ∷ replicate 14 0)
+      ∷ (0 ∷ 0x81 ∷ 0x00 ∷ 0x01 ∷ 0x12 ∷ (workedComponent ++ replicate 14 0))
       ∷ (9 ∷ [])
       ∷ []
   -- "end 1 0 1"

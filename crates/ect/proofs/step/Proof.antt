@@ -34,7 +34,8 @@ copy-out-requires c κs = search needs
 
 returns-3 : tie.Need-returns-3
 returns-3 c =
-    step-refuses (c .before .before .before .before .before .before .before .before .before .before .args .board) (c .before .before .before .before .before .before .before .before .before .before .args .event .now) (c .before .before .before .before .before .before .before .before .before .before .args .reply .now) (omega arith) (told (c .before .before .before .before .before .before .sound .ensures) (was-true _ (c .before .before .before .before .before .if2 .left)))
+    let s = c .before .before .before .before .before .before .before .before .before .before in
+    step-refuses (s .args .board) (s .args .event .now) (s .args .reply .now) (omega arith) (told (c .before .before .before .before .before .before .sound .ensures) (was-true _ (c .before .before .before .before .before .if2 .left)))
     (c .before .before .before .before .effect-of .result) (c .before .before .before .before .effect-of .ensures) (c .before .verdict .given .1)
 
 same-length : tie.Need-same-length
@@ -42,7 +43,8 @@ same-length c = search needs
 
 returns-4 : tie.Need-returns-4
 returns-4 c =
-    step-accepts (c .before .before .before .before .before .before .before .before .before .before .before .before .before .before .args .board) (c .before .before .before .before .before .before .before .before .before .before .before .before .before .before .args .event .now) (c .before .before .before .before .before .before .before .before .before .before .before .before .before .before .args .reply .now) (omega arith) (told (c .before .before .before .before .before .before .before .before .before .before .sound .ensures) (was-true _ (c .before .before .before .before .before .before .before .before .before .if2 .left)))
+    let s = c .before .before .before .before .before .before .before .before .before .before .before .before .before .before in
+    step-accepts (s .args .board) (s .args .event .now) (s .args .reply .now) (omega arith) (told (c .before .before .before .before .before .before .before .before .before .before .sound .ensures) (was-true _ (c .before .before .before .before .before .before .before .before .before .if2 .left)))
     (c .before .before .before .before .before .before .before .before .effect-of .result) (c .before .before .before .before .before .before .before .before .effect-of .ensures) (c .before .before .before .before .before .enum-told .given .1) (c .before .before .copy-out .ensures .0) (c .before .before .copy-out .ensures .1)
 
 pub step-spec : {M : Type 1} → statement M
