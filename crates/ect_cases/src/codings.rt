@@ -1,8 +1,8 @@
 // The published codings of tests/codings.txt, section by section: each is read, or written, and printed as it stands there.
-use component::Answer;
-use component::Reject;
 use crate::show::read;
 use crate::show::written;
+use component::Answer;
+use component::Reject;
 use octets::IntegerOctets;
 use octets::LinkId;
 
@@ -24,7 +24,7 @@ fn operations() {
 }
 
 // Operations that are not served (X.229: invoke problem 1, unrecognised operation)
-fn operations_that_are_not() {
+fn operations_not_served() {
     read(b"\xa1\x06\x02\x01\x05\x02\x01\x05");
     read(b"\xa1\x0b\x02\x01\x05\x06\x06\x04\x00\x82\x71\x01\x02");
     read(b"\xa1\x0b\x02\x01\x05\x06\x06\x04\x00\x82\x71\x01\x03");
@@ -35,14 +35,14 @@ fn operations_that_are_not() {
 }
 
 // Arguments that are not a LinkId (X.229: invoke problem 2, mistyped argument)
-fn arguments_that_are_not() {
+fn arguments_mistyped() {
     read(b"\xa1\x0b\x02\x01\x05\x06\x06\x04\x00\x82\x71\x01\x01");
     read(b"\xa1\x0e\x02\x01\x05\x06\x06\x04\x00\x82\x71\x01\x01\x04\x01\x05");
     read(b"\xa1\x10\x02\x01\x05\x06\x06\x04\x00\x82\x71\x01\x01\x02\x03\x00\x00\x01");
 }
 
 // Components that are mistyped (X.229: general problem 1)
-fn components_that_are_mistyped() {
+fn components_mistyped() {
     read(b"\xa1\x00");
     read(b"\xa1\x05\x05\x00\x02\x01\x06");
     read(b"\xa1\x08\x02\x03\x00\x00\x05\x02\x01\x06");
@@ -53,7 +53,7 @@ fn components_that_are_mistyped() {
 }
 
 // Components that are badly structured (X.229: general problem 2)
-fn components_that_are_badly() {
+fn components_badly_structured() {
     read(b"\xa1");
     read(b"\xa1\x05\x02\x01\x05\x02\x01\x06");
     read(b"\xa1\x07\x02\x01\x05\x02\x01\x06");
@@ -76,21 +76,54 @@ fn other_components() {
 
 // Results
 fn results() {
-    written(Answer::Result(IntegerOctets::One(0x05)), b"answer result 05");
-    written(Answer::Result(IntegerOctets::Two(0x01, 0x00)), b"answer result 0100");
-    written(Answer::LinkIdResult(IntegerOctets::One(0x05), LinkId(0)), b"answer linkid 05 0");
-    written(Answer::LinkIdResult(IntegerOctets::One(0x05), LinkId(127)), b"answer linkid 05 127");
-    written(Answer::LinkIdResult(IntegerOctets::One(0x05), LinkId(128)), b"answer linkid 05 128");
-    written(Answer::LinkIdResult(IntegerOctets::One(0x05), LinkId(-128)), b"answer linkid 05 -128");
-    written(Answer::LinkIdResult(IntegerOctets::One(0x05), LinkId(-129)), b"answer linkid 05 -129");
+    written(
+        Answer::Result(IntegerOctets::One(0x05)),
+        b"answer result 05",
+    );
+    written(
+        Answer::Result(IntegerOctets::Two(0x01, 0x00)),
+        b"answer result 0100",
+    );
+    written(
+        Answer::LinkIdResult(IntegerOctets::One(0x05), LinkId(0)),
+        b"answer linkid 05 0",
+    );
+    written(
+        Answer::LinkIdResult(IntegerOctets::One(0x05), LinkId(127)),
+        b"answer linkid 05 127",
+    );
+    written(
+        Answer::LinkIdResult(IntegerOctets::One(0x05), LinkId(128)),
+        b"answer linkid 05 128",
+    );
+    written(
+        Answer::LinkIdResult(IntegerOctets::One(0x05), LinkId(-128)),
+        b"answer linkid 05 -128",
+    );
+    written(
+        Answer::LinkIdResult(IntegerOctets::One(0x05), LinkId(-129)),
+        b"answer linkid 05 -129",
+    );
 }
 
 // Errors
 fn errors() {
-    written(Answer::Error(IntegerOctets::One(0x05), 0), b"answer error 05 0");
-    written(Answer::Error(IntegerOctets::One(0x05), 7), b"answer error 05 7");
-    written(Answer::Error(IntegerOctets::One(0x05), 11), b"answer error 05 11");
-    written(Answer::LinkIdNotAssigned(IntegerOctets::One(0x05)), b"answer notassigned 05");
+    written(
+        Answer::Error(IntegerOctets::One(0x05), 0),
+        b"answer error 05 0",
+    );
+    written(
+        Answer::Error(IntegerOctets::One(0x05), 7),
+        b"answer error 05 7",
+    );
+    written(
+        Answer::Error(IntegerOctets::One(0x05), 11),
+        b"answer error 05 11",
+    );
+    written(
+        Answer::LinkIdNotAssigned(IntegerOctets::One(0x05)),
+        b"answer notassigned 05",
+    );
 }
 
 // Rejects
@@ -98,17 +131,26 @@ fn rejects() {
     written(Answer::Rejected(Reject::Null(0)), b"answer reject null 0");
     written(Answer::Rejected(Reject::Null(1)), b"answer reject null 1");
     written(Answer::Rejected(Reject::Null(2)), b"answer reject null 2");
-    written(Answer::Rejected(Reject::General(IntegerOctets::One(0x05), 1)), b"answer reject general 05 1");
-    written(Answer::Rejected(Reject::Invoke(IntegerOctets::One(0x05), 1)), b"answer reject invoke 05 1");
-    written(Answer::Rejected(Reject::Invoke(IntegerOctets::Two(0x01, 0x00), 2)), b"answer reject invoke 0100 2");
+    written(
+        Answer::Rejected(Reject::General(IntegerOctets::One(0x05), 1)),
+        b"answer reject general 05 1",
+    );
+    written(
+        Answer::Rejected(Reject::Invoke(IntegerOctets::One(0x05), 1)),
+        b"answer reject invoke 05 1",
+    );
+    written(
+        Answer::Rejected(Reject::Invoke(IntegerOctets::Two(0x01, 0x00), 2)),
+        b"answer reject invoke 0100 2",
+    );
 }
 
 pub fn all() {
     operations();
-    operations_that_are_not();
-    arguments_that_are_not();
-    components_that_are_mistyped();
-    components_that_are_badly();
+    operations_not_served();
+    arguments_mistyped();
+    components_mistyped();
+    components_badly_structured();
     other_components();
     results();
     errors();
