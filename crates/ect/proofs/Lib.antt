@@ -3,3 +3,6 @@ pub mod PartyLaws
 pub mod PairingLaws
 pub mod ReplyLaws
 pub mod ServingLaws
+pub mod EffectLaws
+pub mod NumberLaws
+pub mod StepLaws

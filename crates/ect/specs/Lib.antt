@@ -1,2 +1,4 @@
 pub mod Parties
 pub mod ReplyValues
+pub mod Effects
+pub mod Contract

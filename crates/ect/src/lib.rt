@@ -1,5 +1,62 @@
-// The network side of Explicit Call Transfer for one access: the six events on a board.
+// The network side of Explicit Call Transfer for one access: one call for every event.
+use board::Board;
+use board::soundness::sound;
+use effects::Verdict;
+use effects::effect_of;
+use events::Refusal;
+use replies::copy_out;
+ghost use Rattle.ect.specs.Contract.{Steps};
+
+mod digits;
+mod effects;
 mod pairing;
 mod parties;
 mod replies;
 mod serving;
+
+// Accepted, with the number of octets written; or refused.
+pub enum StepAnswer {
+    Accepted(usize),
+    Refused(Refusal),
+}
+
+pub struct Stepped {
+    pub answer: StepAnswer,
+    pub board: Board,
+}
+
+// The board after the event, with the replies in the front of the buffer; or a refusal that leaves both.
+// Board, event and buffer may have any content, event and buffer any length.
+pub fn step(board: Board, event: &[u8], reply: &mut [u8]) -> Stepped
+    ensures { λ r. ⌜ Steps board (now (event .entry)) (now (reply .entry)) r (now (reply .exit)) ⌝ }
+{
+    if reply.len() < 128 {
+        return Stepped {
+            answer: StepAnswer::Refused(Refusal::BufferTooSmall),
+            board,
+        };
+    }
+    if !sound(board) {
+        return Stepped {
+            answer: StepAnswer::Refused(Refusal::UnsoundBoard),
+            board,
+        };
+    }
+    let effect = effect_of(board, event);
+    let after = effect.board;
+    let verdict = effect.verdict;
+    match verdict {
+        Verdict::Refused(refusal) => Stepped {
+            answer: StepAnswer::Refused(refusal),
+            board: after,
+        },
+        Verdict::Accepted => {
+            let out = effect.out;
+            let n = copy_out(reply, out);
+            Stepped {
+                answer: StepAnswer::Accepted(n),
+                board: after,
+            }
+        }
+    }
+}

@@ -194,7 +194,13 @@ impl Out {
     }
 
     // The five records of a transfer, the Reply on the reference of the event.
-    pub fn push_transfer(self, reference: CallReference, identifier: IntegerOctets, named: FarParty, other: FarParty) -> Out
+    pub fn push_transfer(
+        self,
+        reference: CallReference,
+        identifier: IntegerOctets,
+        named: FarParty,
+        other: FarParty,
+    ) -> Out
         requires { ⌜ self .len + 92 ≤ 128 ⌝ }
         ensures { λ r. ⌜ Adds self r (transferRecords reference identifier named other) 92 ⌝ }
     {

@@ -1,4 +1,7 @@
 // Serving what a component asks for, on the calls of the board.
+use crate::pairing::is_partner;
+use crate::pairing::only_partner;
+use crate::parties::linked;
 use board::Board;
 use board::FoundParty;
 use board::OptionalLinkId;
@@ -8,9 +11,6 @@ use board::finding::free_link_id;
 use component::Answer;
 use component::Operation;
 use component::Reading;
-use crate::pairing::is_partner;
-use crate::pairing::only_partner;
-use crate::parties::linked;
 use octets::IntegerOctets;
 use octets::LinkId;
 use rules::Service;

@@ -26,7 +26,7 @@ use Rattle.events.specs.declared.records.RequestHead.{RequestHead}
 use Rattle.events.specs.declared.records.RequestHead.the-variants as head
 use Rattle.events.specs.EventRecords.{Request, Malformed, Open, Progress, Hold, Release, Facility, Answer, field, directionOf}
 use Rattle.events.specs.EventRecords.{openBody, progressBody, holdBody, facilityBody, ranged, sized, ofKind, request}
-use Rattle.events.specs.RecordValues.{isDigit, RecordRead}
+use Rattle.events.specs.RecordValues.{isDigit, requestOf, RecordRead}
 
 -- ---- a test of each octet, from place i on
 module _ (p : ℕ → Bool) (s : List ℕ) (i : ℕ) where
@@ -302,6 +302,9 @@ unknown-kind (k ∷ b) h h1 h2 h3 h4 h5 h6 = malformed (rw (ne-eqb k 1 h1, ne-eq
 
 -- ---- what a caller takes out of a record
 module _ {os : List ℕ} {r : RequestHead} {q : Request} (f : RecordRead os r q) where
+  pub said : {h : RequestHead} → r ≡ h → q ≡ requestOf h os
+  said e = sym (f .is) ∙ rw e
+
   pub open-length : {n : CallReference} {l : ℕ} {d : Direction} {p m : ℕ} → r ≡ head.Open n l d p m → length os ≡ 25
   open-length e = sym (rw e at (f .whole))
 

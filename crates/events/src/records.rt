@@ -257,15 +257,3 @@ pub fn read_request(event: &[u8]) -> RequestHead
     }
     RequestHead::Malformed(Refusal::UnknownKind)
 }
-
-// The 15 octets of digits of an Open.
-pub fn digits_of(event: &[u8]) -> [u8; 15]
-    requires { ⌜ 25 ≤ length (now event) ⌝ }
-    ensures { λ r. ⌜ r ≡ take 15 (drop 10 (now (event .entry))) ⌝ }
-{
-    let mut digits = [0u8; 15];
-    for i in 0..15 {
-        digits[i] = event[i + 10];
-    }
-    digits
-}

@@ -18,13 +18,22 @@ enum-told : tie.Need-enum-told
 enum-told c = search needs
 
 returns : tie.Need-returns
-returns c = sym (ap (has (partnerFor (c .before .before .before .args .options) (c .before .before .before .args .named))) (party-none (partyIn (c .before .before .before .args .row)) (told (c .before .before .party-of .ensures) (c .enum-told .given .1))))
+returns c =
+    let s = c .before .before .before in
+    sym
+    (ap (has (partnerFor (s .args .options) (s .args .named)))
+    (party-none (partyIn (s .args .row)) (told (c .before .before .party-of .ensures) (c .enum-told .given .1))))
 
 is-partner-requires : tie.Need-is-partner-requires
 is-partner-requires c κs = search needs
 
 returns-2 : tie.Need-returns-2
-returns-2 c = c .is-partner .ensures ∙ sym (ap (has (partnerFor (c .before .before .before .before .before .args .options) (c .before .before .before .before .before .args .named))) (party-some (partyIn (c .before .before .before .before .before .args .row)) (told (c .before .before .before .before .party-of .ensures) (c .before .before .other .given .1))))
+returns-2 c =
+    let s = c .before .before .before .before .before in
+    c .is-partner .ensures
+    ∙ sym
+    (ap (has (partnerFor (s .args .options) (s .args .named)))
+    (party-some (partyIn (s .args .row)) (told (c .before .before .before .before .party-of .ensures) (c .before .before .other .given .1))))
 
 pub has-partner-spec : {M : Type 1} → statement M
 has-partner-spec =

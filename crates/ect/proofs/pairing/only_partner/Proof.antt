@@ -30,7 +30,10 @@ enum-told : tie.Need-enum-told
 enum-told c = search needs
 
 returns : tie.Need-returns
-returns c = only-nowhere (partnerFor (c .before .before .before .args .t1 .options) (c .before .before .before .args .named)) (c .before .before .before .args .t1 .rows) (told (c .before .before .partner-from .ensures) (c .enum-told .given .1))
+returns c =
+    let s = c .before .before .before in
+    only-nowhere (partnerFor (s .args .t1 .options) (s .args .named)) (s .args .t1 .rows)
+    (told (c .before .before .partner-from .ensures) (c .enum-told .given .1))
 
 add-partner-from : tie.Need-add-partner-from
 add-partner-from c = let h = below (c .before) in search needs

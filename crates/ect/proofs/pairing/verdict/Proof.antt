@@ -18,7 +18,11 @@ is-active-requires-2 : tie.Need-is-active-requires-2
 is-active-requires-2 c κs = search needs
 
 returns-2 : tie.Need-returns-2
-returns-2 c = verdict-active (c .before .before .before .before .before .args .c) (c .before .before .before .before .before .args .d) (told (c .before .before .before .before .held-with-idle .ensures) (was-true _ (c .before .before .before .if1 .left))) (rw (c .before .before .is-active .ensures, c .before .is-active2 .ensures) at (c .if2 .taken))
+returns-2 c =
+    let s = c .before .before .before .before .before in
+    verdict-active (s .args .c) (s .args .d)
+    (told (c .before .before .before .before .held-with-idle .ensures) (was-true _ (c .before .before .before .if1 .left)))
+    (rw (c .before .before .is-active .ensures, c .before .is-active2 .ensures) at (c .if2 .taken))
 
 active-with-delivered-requires : tie.Need-active-with-delivered-requires
 active-with-delivered-requires c κs = search needs
@@ -27,10 +31,24 @@ active-with-delivered-requires-2 : tie.Need-active-with-delivered-requires-2
 active-with-delivered-requires-2 c κs = search needs
 
 returns-3 : tie.Need-returns-3
-returns-3 c = verdict-delivered (c .before .before .before .before .before .before .before .before .args .c) (c .before .before .before .before .before .before .before .before .args .d) (told (c .before .before .before .before .before .before .before .held-with-idle .ensures) (was-true _ (c .before .before .before .before .before .before .if1 .left))) (rw (c .before .before .before .before .before .is-active .ensures, c .before .before .before .before .is-active2 .ensures) at (c .before .before .before .if2 .left)) (rw (c .before .before .active-with-delivered .ensures, c .before .active-with-delivered2 .ensures) at (c .if3 .taken))
+returns-3 c =
+    let s = c .before .before .before .before .before .before .before .before in
+    verdict-delivered (s .args .c) (s .args .d)
+    (told (c .before .before .before .before .before .before .before .held-with-idle .ensures)
+    (was-true _ (c .before .before .before .before .before .before .if1 .left)))
+    (rw (c .before .before .before .before .before .is-active .ensures, c .before .before .before .before .is-active2 .ensures) at
+    (c .before .before .before .if2 .left))
+    (rw (c .before .before .active-with-delivered .ensures, c .before .active-with-delivered2 .ensures) at (c .if3 .taken))
 
 returns-4 : tie.Need-returns-4
-returns-4 c = verdict-neither (c .before .before .before .before .before .before .before .before .args .c) (c .before .before .before .before .before .before .before .before .args .d) (told (c .before .before .before .before .before .before .before .held-with-idle .ensures) (was-true _ (c .before .before .before .before .before .before .if1 .left))) (rw (c .before .before .before .before .before .is-active .ensures, c .before .before .before .before .is-active2 .ensures) at (c .before .before .before .if2 .left)) (rw (c .before .before .active-with-delivered .ensures, c .before .active-with-delivered2 .ensures) at (c .if3 .left))
+returns-4 c =
+    let s = c .before .before .before .before .before .before .before .before in
+    verdict-neither (s .args .c) (s .args .d)
+    (told (c .before .before .before .before .before .before .before .held-with-idle .ensures)
+    (was-true _ (c .before .before .before .before .before .before .if1 .left)))
+    (rw (c .before .before .before .before .before .is-active .ensures, c .before .before .before .before .is-active2 .ensures) at
+    (c .before .before .before .if2 .left))
+    (rw (c .before .before .active-with-delivered .ensures, c .before .active-with-delivered2 .ensures) at (c .if3 .left))
 
 pub verdict-spec : {M : Type 1} → statement M
 verdict-spec =

@@ -12,7 +12,11 @@ failed-requires : tie.Need-failed-requires
 failed-requires c κs = search needs
 
 returns : tie.Need-returns
-returns c = c .failed .ensures ∙ new-full (c .before .before .before .before .before .args .board .rows) (c .before .before .before .before .before .args .board .candidate .0) (c .before .before .before .before .before .args .identifier) (c .before .before .before .add-up .ensures) (c .before .if1 .taken)
+returns c =
+    let s = c .before .before .before .before .before in
+    c .failed .ensures
+    ∙ new-full (s .args .board .rows) (s .args .board .candidate .0) (s .args .identifier) (c .before .before .before .add-up .ensures)
+    (c .before .if1 .taken)
 
 free-link-id-requires : tie.Need-free-link-id-requires
 free-link-id-requires c κs = search needs
@@ -27,10 +31,19 @@ enum-known-id : tie.Need-enum-known-id
 enum-known-id c = search needs
 
 returns-2 : tie.Need-returns-2
-returns-2 c = c .failed2 .ensures ∙ new-none (c .before .before .before .before .before .before .before .before .args .board .rows) (c .before .before .before .before .before .before .before .before .args .board .candidate .0) (c .before .before .before .before .before .before .before .before .args .identifier) (c .before .before .before .before .before .before .add-up .ensures) (c .before .before .before .before .if1 .left) (told (c .before .before .before .free-link-id .ensures) (c .before .enum-told .given .1))
+returns-2 c =
+    let s = c .before .before .before .before .before .before .before .before in
+    c .failed2 .ensures
+    ∙ new-none (s .args .board .rows) (s .args .board .candidate .0) (s .args .identifier)
+    (c .before .before .before .before .before .before .add-up .ensures) (c .before .before .before .before .if1 .left)
+    (told (c .before .before .before .free-link-id .ensures) (c .before .enum-told .given .1))
 
 returns-3 : tie.Need-returns-3
-returns-3 c = new-some (c .before .before .before .before .before .before .before .before .args .board .rows) (c .before .before .before .before .before .before .before .before .args .board .candidate .0) (c .before .before .before .before .before .before .before .before .args .identifier) (c .before .before .before .before .before .before .add-up .ensures) (c .before .before .before .before .if1 .left) (told (c .before .before .before .free-link-id .ensures) (c .before .id .given .1))
+returns-3 c =
+    let s = c .before .before .before .before .before .before .before .before in
+    new-some (s .args .board .rows) (s .args .board .candidate .0) (s .args .identifier)
+    (c .before .before .before .before .before .before .add-up .ensures) (c .before .before .before .before .if1 .left)
+    (told (c .before .before .before .free-link-id .ensures) (c .before .id .given .1))
 
 pub assign-link-id-spec : {M : Type 1} → statement M
 assign-link-id-spec =

@@ -21,10 +21,21 @@ failed-requires : tie.Need-failed-requires
 failed-requires c κs = search needs
 
 returns : tie.Need-returns
-returns c = c .failed .ensures ∙ sym (ap (execute (c .before .before .before .before .args .named) (c .before .before .before .before .args .identifier)) (party-none (only (keep (partnerFor (c .before .before .before .before .args .board .options) (c .before .before .before .before .args .named)) (calls (taken (c .before .before .before .before .args .board .rows))))) (told (c .before .before .before .only-partner .ensures) (c .before .enum-told .given .1))))
+returns c =
+    let s = c .before .before .before .before in
+    c .failed .ensures
+    ∙ sym
+    (ap (execute (s .args .named) (s .args .identifier))
+    (party-none (only (keep (partnerFor (s .args .board .options) (s .args .named)) (calls (taken (s .args .board .rows)))))
+    (told (c .before .before .before .only-partner .ensures) (c .before .enum-told .given .1))))
 
 returns-2 : tie.Need-returns-2
-returns-2 c = sym (ap (execute (c .before .before .before .before .args .named) (c .before .before .before .before .args .identifier)) (party-some (only (keep (partnerFor (c .before .before .before .before .args .board .options) (c .before .before .before .before .args .named)) (calls (taken (c .before .before .before .before .args .board .rows))))) (told (c .before .before .before .only-partner .ensures) (c .before .other .given .1))))
+returns-2 c =
+    let s = c .before .before .before .before in
+    sym
+    (ap (execute (s .args .named) (s .args .identifier))
+    (party-some (only (keep (partnerFor (s .args .board .options) (s .args .named)) (calls (taken (s .args .board .rows)))))
+    (told (c .before .before .before .only-partner .ensures) (c .before .other .given .1))))
 
 pub execute-spec : {M : Type 1} → statement M
 execute-spec =

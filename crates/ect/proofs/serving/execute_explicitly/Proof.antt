@@ -20,19 +20,43 @@ enum-told : tie.Need-enum-told
 enum-told c = search needs
 
 returns : tie.Need-returns
-returns c = sym (ap (executeExplicitly (c .before .before .before .args .board .options) (c .before .before .before .args .named) (c .before .before .before .args .identifier)) (party-none (find (hasLinkId (c .before .before .before .args .id)) (calls (taken (c .before .before .before .args .board .rows)))) (told (c .before .before .linked .ensures) (c .enum-told .given .1))))
+returns c =
+    let s = c .before .before .before in
+    sym
+    (ap (executeExplicitly (s .args .board .options) (s .args .named) (s .args .identifier))
+    (party-none (find (hasLinkId (s .args .id)) (calls (taken (s .args .board .rows))))
+    (told (c .before .before .linked .ensures) (c .enum-told .given .1))))
 
 is-partner-requires : tie.Need-is-partner-requires
 is-partner-requires c κs = search needs
 
 returns-2 : tie.Need-returns-2
-returns-2 c = sym (ap (executeExplicitly (c .before .before .before .before .before .before .before .args .board .options) (c .before .before .before .before .before .before .before .args .named) (c .before .before .before .before .before .before .before .args .identifier)) (party-some (find (hasLinkId (c .before .before .before .before .before .before .before .args .id)) (calls (taken (c .before .before .before .before .before .before .before .args .board .rows)))) (told (c .before .before .before .before .before .before .linked .ensures) (c .before .before .before .before .other .given .1))) ∙ ap (λ (x : Bool). cond x (Transfer (c .before .before .before .before .before .before .before .args .named) (c .before .before .before .before .other .given .0 .0) (c .before .before .before .before .before .before .before .args .identifier)) (error (c .before .before .before .before .before .before .before .args .identifier) 7)) (told (c .before .is-partner .ensures) (c .if1 .taken)))
+returns-2 c =
+    let s = c .before .before .before .before .before .before .before in
+    sym
+    (ap (executeExplicitly (s .args .board .options) (s .args .named) (s .args .identifier))
+    (party-some (find (hasLinkId (s .args .id)) (calls (taken (s .args .board .rows))))
+    (told (c .before .before .before .before .before .before .linked .ensures) (c .before .before .before .before .other .given .1)))
+    ∙ ap
+    (λ (x : Bool). cond x (Transfer (s .args .named) (c .before .before .before .before .other .given .0 .0) (s .args .identifier))
+    (error (s .args .identifier) 7))
+    (told (c .before .is-partner .ensures) (c .if1 .taken)))
 
 failed-requires : tie.Need-failed-requires
 failed-requires c κs = search needs
 
 returns-3 : tie.Need-returns-3
-returns-3 c = c .failed .ensures ∙ sym (ap (executeExplicitly (c .before .before .before .before .before .before .before .before .args .board .options) (c .before .before .before .before .before .before .before .before .args .named) (c .before .before .before .before .before .before .before .before .args .identifier)) (party-some (find (hasLinkId (c .before .before .before .before .before .before .before .before .args .id)) (calls (taken (c .before .before .before .before .before .before .before .before .args .board .rows)))) (told (c .before .before .before .before .before .before .before .linked .ensures) (c .before .before .before .before .before .other .given .1))) ∙ ap (λ (x : Bool). cond x (Transfer (c .before .before .before .before .before .before .before .before .args .named) (c .before .before .before .before .before .other .given .0 .0) (c .before .before .before .before .before .before .before .before .args .identifier)) (error (c .before .before .before .before .before .before .before .before .args .identifier) 7)) (told (c .before .before .is-partner .ensures) (c .before .if1 .left)))
+returns-3 c =
+    let s = c .before .before .before .before .before .before .before .before in
+    c .failed .ensures
+    ∙ sym
+    (ap (executeExplicitly (s .args .board .options) (s .args .named) (s .args .identifier))
+    (party-some (find (hasLinkId (s .args .id)) (calls (taken (s .args .board .rows))))
+    (told (c .before .before .before .before .before .before .before .linked .ensures) (c .before .before .before .before .before .other .given .1)))
+    ∙ ap
+    (λ (x : Bool). cond x (Transfer (s .args .named) (c .before .before .before .before .before .other .given .0 .0) (s .args .identifier))
+    (error (s .args .identifier) 7))
+    (told (c .before .before .is-partner .ensures) (c .before .if1 .left)))
 
 pub execute-explicitly-spec : {M : Type 1} → statement M
 execute-explicitly-spec =

@@ -5,9 +5,9 @@ use mathlib.Core.Path.{_≡_, refl, sym, _∙_}
 use lib.ListN.{length, take, drop}
 use lib.Seq.{take-all}
 use borrow.Author.Needs.{needs}
 use Rattle.events.proofs.RecordLaws.{copied}
-use Rattle.events.proofs.records.digits_of.Statement.{statement}
-use Rattle.events.proofs.records.digits_of.Tie as tie
+use Rattle.ect.proofs.digits.digits_of.Statement.{statement}
+use Rattle.ect.proofs.digits.digits_of.Tie as tie
 
 abbrev Inv-loop : tie.InvT-loop
 Inv-loop event digits₀ i₀ digits i = (i ≤ 15) × (length digits ≡ 15) × (take i digits ≡ take i (drop 10 event))

@@ -1,0 +1,13 @@
+use Rattle.ect.proofs.EffectLaws.{refused}
+use borrow.Author.Needs.{needs}
+use Rattle.ect.proofs.effects.refuse.Statement.{statement}
+use Rattle.ect.proofs.effects.refuse.Tie as tie
+
+empty-requires : tie.Need-empty-requires
+empty-requires c κs = search needs
+
+returns : tie.Need-returns
+returns c = refused (c .before .args .board) (c .before .args .refusal) (c .empty .ensures)
+
+pub refuse-spec : {M : Type 1} → statement M
+refuse-spec = tie.close (tie.spec empty-requires returns)

@@ -1,0 +1,34 @@
+-- What `step` promises: the answer, the board and the buffer of the rules' outcome (demands 1 and 2).
+use Prim.Native.Nat.{ℕ}
+use mathlib.Core.Path.{_≡_}
+use mathlib.Core.List.{List, _++_}
+use lib.ListN.{length, drop}
+use Rattle.board.specs.declared.Board.{Board}
+use Rattle.events.specs.declared.Refusal.{Refusal}
+use Rattle.rules.specs.Checks.{refusalNumber}
+use Rattle.rules.specs.Replies.{DropOrder, octets}
+use Rattle.rules.specs.Step.{Outcome, step}
+use Rattle.ect.specs.declared.StepAnswer.{StepAnswer}
+use Rattle.ect.specs.declared.StepAnswer.the-variants.{Accepted, Refused}
+use Rattle.ect.specs.declared.Stepped.{Stepped}
+
+-- the number that an answer stands for: "Accepted events return 0", and the table of refusals
+abbrev pub answerNumber : StepAnswer → ℕ
+answerNumber (Accepted n) = 0
+answerNumber (Refused c) = refusalNumber c
+
+-- "and the number of octets written"; "with a refusal that number is 0"
+abbrev pub answerCount : StepAnswer → ℕ
+answerCount (Accepted n) = n
+answerCount (Refused c) = 0
+
+-- what the exchange program gets of an outcome: the answer, the board, and the buffer, which "keeps what lies beyond the octets written"
+pub record Shows (o : Outcome) (before : List ℕ) (r : Stepped) (after : List ℕ) : Type 0 where
+  pub answer : answerNumber (r .answer) ≡ o .returned
+  pub count : answerCount (r .answer) ≡ length (octets (o .replies))
+  pub board : r .board ≡ o .board
+  pub buffer : after ≡ octets (o .replies) ++ drop (length (octets (o .replies))) before
+
+-- the outcome is that of the rules, in one order of a transfer's two Drops: "Only the order of the two drop notices is left open."
+abbrev pub Steps : Board → List ℕ → List ℕ → Stepped → List ℕ → Type 0
+Steps b event before r after = (order : DropOrder) × Shows (step order b event (length before)) before r after
