@@ -1,0 +1,18 @@
+-- `ect_log::write` is safe and ends. Assumes nothing.
+use mathlib.Core.Path.{sym}
+use lib.Seq.{length-take-le}
+use borrow.Author.Needs.{needs}
+use Rattle.ect_log.proofs.write.Statement.{statement}
+use Rattle.ect_log.proofs.write.Tie as tie
+
+slice-aggregate-write-all : tie.Need-slice-aggregate-write-all
+slice-aggregate-write-all c = sym (length-take-le (c .before .before .args .n) (c .before .before .args .text .now) (c .before .before .pre))
+
+write-all-requires : tie.Need-write-all-requires
+write-all-requires c κs = search needs
+
+returns : tie.Need-returns
+returns c = search needs
+
+pub write-spec : {M : Type 1} → statement M
+write-spec = tie.close (tie.spec slice-aggregate-write-all write-all-requires returns)

@@ -1,0 +1,147 @@
+// Playing the records of a piece of a log.
+use crate::records::record_length;
+use crate::records::returned;
+use crate::records::written;
+use board::Board;
+use ect::step;
+ghost use Prim.Native.Nat.{_≤_, _<_};
+ghost use lib.ListN.{length};
+ghost use Rattle.ect_log.specs.Playing.{Tells};
+
+// More than the longest line of a record: 20 digits, kind, number returned, twice 128 octets, spaces and the end.
+const LONGEST_LINE: usize = 512;
+
+// Why playing pauses: a record goes on behind the piece, the text has no room for another line, or nothing more is
+// read.
+pub enum Pause {
+    MoreInput,
+    FullOutput,
+    End,
+}
+
+// The board and the number of the last record after a piece, how many of its octets were played, and how many octets
+// of text were written.
+pub struct Played {
+    pub board: Board,
+    pub number: u64,
+    pub read: usize,
+    pub written: usize,
+    pub pause: Pause,
+}
+
+// What one record led to, and how many octets its line has.
+pub struct Told {
+    pub board: Board,
+    pub returned: u8,
+    pub written: usize,
+}
+
+// Has the component judge a record, and writes its line.
+fn tell(board: Board, number: u64, event: &[u8], out: &mut [u8]) -> Told
+    requires { ⌜ 0 < length (now event) ⌝ }
+    ensures { λ r. ⌜ Tells board number (now (event .entry)) (now (out .entry)) (now (out .exit)) r ⌝ }
+{
+    let mut reply = [0u8; 128];
+    let stepped = step(board, event, &mut reply);
+    let answer = stepped.answer;
+    let number_returned = returned(answer);
+    let count = written(answer);
+    let n = log_text::record_line(number, event[0], number_returned, &reply[..count], out);
+    let after = stepped.board;
+    Told {
+        board: after,
+        returned: number_returned,
+        written: n,
+    }
+}
+
+// How many octets the record at the front of a piece takes: as many as its kind has, or all there are of one that is
+// cut at the log's end; 0 where the record goes on behind the piece.
+fn front_length(piece: &[u8], is_last: bool) -> usize
+    requires { ⌜ 0 < length (now piece) ⌝ }
+    ensures { λ r. ⌜ r ≤ length (now (piece .entry)) ⌝ }
+{
+    let whole = record_length(piece[0]);
+    if whole <= piece.len() {
+        return whole;
+    }
+    if is_last {
+        return piece.len();
+    }
+    0
+}
+
+// A record that is cut, and one of a kind that is not listed, stop the reading.
+fn stops(returned: u8) -> bool {
+    if returned == 3 {
+        return true;
+    }
+    returned == 4
+}
+
+pub fn play(start: Board, before: u64, piece: &[u8], is_last: bool, out: &mut [u8]) -> Played
+    ensures { λ r. ⌜ (r .read ≤ length (now (piece .entry))) × (r .written ≤ length (now (out .entry))) ⌝ }
+{
+    let mut board = start;
+    let mut number = before;
+    let mut read = 0;
+    let mut text = 0;
+    while read < piece.len() {
+        if out.len() - text < LONGEST_LINE {
+            return Played {
+                board,
+                number,
+                read,
+                written: text,
+                pause: Pause::FullOutput,
+            };
+        }
+        let taken = front_length(&piece[read..], is_last);
+        if taken == 0 {
+            return Played {
+                board,
+                number,
+                read,
+                written: text,
+                pause: Pause::MoreInput,
+            };
+        }
+        if u64::MAX <= number {
+            return Played {
+                board,
+                number,
+                read,
+                written: text,
+                pause: Pause::End,
+            };
+        }
+        number += 1;
+        let told = tell(board, number, &piece[read..read + taken], &mut out[text..]);
+        board = told.board;
+        read += taken;
+        text += told.written;
+        if stops(told.returned) {
+            return Played {
+                board,
+                number,
+                read,
+                written: text,
+                pause: Pause::End,
+            };
+        }
+    }
+    Played {
+        board,
+        number,
+        read,
+        written: text,
+        pause: at_end(is_last),
+    }
+}
+
+fn at_end(is_last: bool) -> Pause {
+    if is_last {
+        return Pause::End;
+    }
+    Pause::MoreInput
+}

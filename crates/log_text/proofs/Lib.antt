@@ -1,0 +1,2 @@
+-- Laws of the lines' text, for the proofs of this crate.
+pub mod TextLaws
