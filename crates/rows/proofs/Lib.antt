@@ -2,4 +2,6 @@
 pub mod Walks
 pub mod Lending
 pub mod Seeing
+pub mod Meetings
+pub mod Summing
 pub mod Agreement
