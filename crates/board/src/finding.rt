@@ -31,7 +31,7 @@ fn is_occupied(standing: Standing) -> bool
     }
 }
 
-fn is_call_of(standing: Standing, reference: CallReference) -> bool
+pub fn is_call_of(standing: Standing, reference: CallReference) -> bool
     ensures { λ r. ⌜ r ≡ isCallOf (reference .0) standing ⌝ }
 {
     match standing {

@@ -1,0 +1,168 @@
+// Lookup and counts over rows that are lent as a slice, however many. A row is copied out of the slice, and what is
+// decided of it is decided in functions over rows by value.
+ghost use mathlib.Core.Path.{_≡_};
+ghost use Prim.Native.Nat.{_+_, _≤_, _<_, _^_};
+ghost use Rattle.board.specs.Lookup.{lookup as lookupRows};
+ghost use Rattle.board.specs.Counts.{counts};
+ghost use Rattle.rows.specs.Steps.{seen, meeting, among, added, counted};
+use board::Counted;
+use board::Found;
+use board::Row;
+use board::counting::row_tally;
+use board::finding::is_call_of;
+use board::soundness::row_fits;
+use board::soundness::rows_clash;
+use board::soundness::rows_paired;
+use octets::CallReference;
+
+// What is found once the row at that place is read: the first place found stays.
+fn see(found: Found, row: Row, reference: CallReference, place: usize) -> Found
+    ensures { λ r. ⌜ r ≡ seen (reference .0) found row place ⌝ }
+{
+    let standing = row.standing;
+    match found {
+        Found::At(first) => Found::At(first),
+        Found::Nothing => {
+            if is_call_of(standing, reference) {
+                return Found::At(place);
+            }
+            Found::Nothing
+        }
+    }
+}
+
+// The lowest place, counted from 0, with a call of that reference.
+pub fn lookup(rows: &[Row], reference: CallReference) -> Found
+    ensures { λ r. ⌜ r ≡ lookupRows (reference .0) (now (rows .entry)) ⌝ }
+{
+    let mut found = Found::Nothing;
+    let mut place = 0usize;
+    while place < rows.len() {
+        let row = rows[place];
+        found = see(found, row, reference, place);
+        place = place + 1;
+    }
+    found
+}
+
+// The same of 64 rows by value.
+pub fn lookup_in(rows: [Row; 64], reference: CallReference) -> Found
+    ensures { λ r. ⌜ r ≡ lookupRows (reference .0) rows ⌝ }
+{
+    lookup(&rows, reference)
+}
+
+// A row and its place.
+struct Placed {
+    row: Row,
+    place: usize,
+}
+
+// What the rows say of one: whether a later row clashes with it, and whether a row is its partner or it needs none.
+struct Met {
+    clashes: bool,
+    paired: bool,
+}
+
+// What is known of a row once another one, at that place, is held against it.
+fn meet(met: Met, other: Row, subject: Placed, place: usize) -> Met
+    ensures { λ r. ⌜ r ≡ meeting met other subject place ⌝ }
+{
+    let row = subject.row;
+    let paired = met.paired | rows_paired(row, other);
+    if subject.place < place {
+        return Met {
+            clashes: met.clashes | rows_clash(row, other),
+            paired,
+        };
+    }
+    Met {
+        clashes: met.clashes,
+        paired,
+    }
+}
+
+fn meet_all(rows: &[Row], subject: Placed) -> Met
+    ensures { λ r. ⌜ r ≡ among subject (now (rows .entry)) ⌝ }
+{
+    let mut met = Met {
+        clashes: false,
+        paired: false,
+    };
+    let mut place = 0usize;
+    while place < rows.len() {
+        let other = rows[place];
+        met = meet(met, other, subject, place);
+        place = place + 1;
+    }
+    met
+}
+
+// Whether the rows so far obey the rules, those on the number of LinkIds apart, and how many are taken, are joined and
+// have a LinkId.
+struct Sums {
+    sound: bool,
+    legs: usize,
+    joined: usize,
+    links: usize,
+}
+
+fn add(sums: Sums, subject: Placed, met: Met) -> Sums
+    requires { ⌜ (sums .legs ≤ subject .place) × (sums .joined ≤ subject .place) × (sums .links ≤ subject .place)
+        × (subject .place + 1 < 2 ^ 64) ⌝ }
+    ensures { λ r. ⌜ r ≡ added sums subject met ⌝ }
+{
+    let row = subject.row;
+    let t = row_tally(row);
+    Sums {
+        sound: sums.sound & row_fits(row) & !met.clashes & met.paired,
+        legs: sums.legs + t.legs,
+        joined: sums.joined + t.joined,
+        links: sums.links + t.links,
+    }
+}
+
+// The answer once all rows are read: at most 16 LinkIds are live.
+fn answer(sums: Sums) -> Counted
+    ensures { λ r. ⌜ r ≡ counted sums ⌝ }
+{
+    if 16 < sums.links {
+        return Counted::Unsound;
+    }
+    if sums.sound {
+        return Counted::Counts {
+            legs: sums.legs,
+            pairs: sums.joined / 2,
+            links: sums.links,
+        };
+    }
+    Counted::Unsound
+}
+
+// The counts of the rows, once they are found sound.
+pub fn count(rows: &[Row]) -> Counted
+    ensures { λ r. ⌜ r ≡ counts (now (rows .entry)) ⌝ }
+{
+    let mut sums = Sums {
+        sound: true,
+        legs: 0,
+        joined: 0,
+        links: 0,
+    };
+    let mut place = 0usize;
+    while place < rows.len() {
+        let row = rows[place];
+        let subject = Placed { row, place };
+        let met = meet_all(rows, subject);
+        sums = add(sums, subject, met);
+        place = place + 1;
+    }
+    answer(sums)
+}
+
+// The same of 64 rows by value.
+pub fn count_in(rows: [Row; 64]) -> Counted
+    ensures { λ r. ⌜ r ≡ counts rows ⌝ }
+{
+    count(&rows)
+}
