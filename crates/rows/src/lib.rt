@@ -82,6 +82,7 @@ fn meet(met: Met, other: Row, subject: Placed, place: usize) -> Met
     }
 }
 
+// What all rows say of one of them.
 fn meet_all(rows: &[Row], subject: Placed) -> Met
     ensures { λ r. ⌜ r ≡ among subject (now (rows .entry)) ⌝ }
 {
@@ -98,7 +99,7 @@ fn meet_all(rows: &[Row], subject: Placed) -> Met
     met
 }
 
-// Whether the rows so far obey the rules, those on the number of LinkIds apart, and how many are taken, are joined and
+// Whether the rows so far obey the rules, that on the number of LinkIds apart, and how many are taken, are joined and
 // have a LinkId.
 struct Sums {
     sound: bool,
@@ -107,6 +108,7 @@ struct Sums {
     links: usize,
 }
 
+// One row more, with what the rows say of it. Each count is at most the place, so that no sum overflows.
 fn add(sums: Sums, subject: Placed, met: Met) -> Sums
     requires { ⌜ (sums .legs ≤ subject .place) × (sums .joined ≤ subject .place) × (sums .links ≤ subject .place)
         × (subject .place + 1 < 2 ^ 64) ⌝ }
