@@ -1,4 +1,4 @@
-// Runs cases and prints a line for each: every refusal of `step` once, and the published codings.
+// Runs cases and prints a line for each: every refusal of `step`, a transfer, and the published codings.
 use board::Board;
 use board::Options;
 use ect::StepAnswer;
@@ -9,6 +9,7 @@ use show::text;
 
 mod codings;
 mod show;
+mod transfer;
 
 fn number(refusal: Refusal) -> u64 {
     match refusal {
@@ -129,5 +130,6 @@ fn main() {
     let fresh = made.board;
     before_the_board(fresh);
     on_the_board(fresh);
+    transfer::ward_transfer(fresh);
     codings::all();
 }

@@ -4,9 +4,6 @@ use lib.ListN.{length}
 use mathlib.Core.Path.{_≡_}
 use Rattle.ect_cases.proofs.full.Statement.{statement}
 use Rattle.ect_cases.proofs.full.Tie as tie
-use Rattle.ect_cases.proofs.full.Reads as reads
-use Rattle.ect_cases.proofs.full.Lts as lts
-use Rattle.ect.proofs.step.Reads as step-reads
 
 abbrev Inv-loop : tie.InvT-loop
 Inv-loop board₀ event₀ reply₀ k₀ board event reply k = (k ≤ 65) × (length event ≡ 25) × (length reply ≡ 128)

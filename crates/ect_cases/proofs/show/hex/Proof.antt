@@ -3,10 +3,6 @@ use Prim.Native.Nat.{_≤_, _-_}
 use lib.ListN.{length}
 use Rattle.ect_cases.proofs.show.hex.Statement.{statement}
 use Rattle.ect_cases.proofs.show.hex.Tie as tie
-use Rattle.ect_cases.proofs.show.hex.Reads as reads
-use Rattle.ect_cases.proofs.show.hex.Lts as lts
-use Rattle.ect_cases.proofs.show.wide.Reads as wide-reads
-use Rattle.io.proofs.print_hex.Reads as print-hex-reads
 
 abbrev Inv-loop : tie.InvT-loop
 Inv-loop octets i₀ i = i ≤ length octets

@@ -4,12 +4,6 @@ use lib.ListN.{length}
 use mathlib.Core.Path.{_≡_}
 use Rattle.ect_cases.proofs.show.written.Statement.{statement}
 use Rattle.ect_cases.proofs.show.written.Tie as tie
-use Rattle.ect_cases.proofs.show.written.Reads as reads
-use Rattle.ect_cases.proofs.show.written.Lts as lts
-use Rattle.component.proofs.encode.Reads as encode-reads
-use Rattle.ect_cases.proofs.show.text.Reads as text-reads
-use Rattle.ect_cases.proofs.show.wide.Reads as wide-reads
-use Rattle.io.proofs.print_hex.Reads as print-hex-reads
 
 abbrev Inv-loop : tie.InvT-loop
 Inv-loop words c octets i₀ t7 t8 i = (i ≤ c .count) × (length octets ≡ 32)

@@ -1,0 +1,60 @@
+// How an exchange calls `step`: a held call and an alerting one are transferred to each other, and the ward answers.
+use crate::show::decimal;
+use crate::show::hex;
+use crate::show::text;
+use board::Board;
+use ect::StepAnswer;
+
+// The front of the buffer is to be sent.
+fn send(n: usize, reply: &[u8]) {
+    if n <= reply.len() {
+        hex(&reply[..n]);
+    }
+    text(b"\n");
+}
+
+// One event: the exchange sends what was written, and goes on with the board that it gets.
+fn event(board: Board, octets: &[u8]) -> Board {
+    let mut reply = [0u8; 128];
+    let stepped = ect::step(board, octets, &mut reply);
+    let answer = stepped.answer;
+    match answer {
+        StepAnswer::Accepted(n) => {
+            text(b"accepted ");
+            send(n, &reply);
+        }
+        StepAnswer::Refused(refusal) => {
+            text(b"refused ");
+            decimal(crate::number(refusal));
+            text(b"\n");
+        }
+    }
+    stepped.board
+}
+
+// Opens reference r on leg r, with the digits 2 and r.
+fn open(board: Board, r: u8, incoming: u8) -> Board {
+    let mut octets = [0u8; 25];
+    octets[0] = 1;
+    octets[2] = r;
+    octets[6] = r;
+    octets[7] = incoming;
+    octets[9] = 2;
+    octets[10] = 50;
+    octets[11] = 48 + r % 10;
+    event(board, &octets)
+}
+
+pub fn ward_transfer(fresh: Board) {
+    let caller = open(fresh, 1, 1);
+    let talking = event(caller, b"\x02\x00\x01\x0a");
+    let asked = event(talking, b"\x03\x00\x01\x01");
+    let held = event(asked, b"\x03\x00\x01\x02");
+    let ward = open(held, 2, 0);
+    let alerting = event(ward, b"\x02\x00\x02\x04");
+    let joined = event(
+        alerting,
+        b"\x05\x00\x01\x08\xa1\x06\x02\x01\x05\x02\x01\x06\x00\x00\x00\x00\x00\x00\x00\x00\x00\x00\x00\x00\x00\x00\x00\x00\x00\x00\x00\x00\x00\x00\x00\x00",
+    );
+    event(joined, b"\x06\x00\x00\x00\x02");
+}
