@@ -79,6 +79,7 @@ fn stops(returned: u8) -> bool {
     returned == 4
 }
 
+// Plays the records of a piece. A number that 64 bits do not hold is not given: the reading ends at the one before.
 pub fn play(start: Board, before: u64, piece: &[u8], is_last: bool, out: &mut [u8]) -> Played
     ensures { λ r. ⌜ (r .read ≤ length (now (piece .entry))) × (r .written ≤ length (now (out .entry))) ⌝ }
 {
