@@ -1,4 +1,5 @@
-// The published codings of tests/codings.txt, section by section: each is read, or written, and printed as it stands there.
+// The published codings of tests/codings.txt, section by section: each is read, or written, and printed as it stands
+// there.
 use crate::show::read;
 use crate::show::written;
 use component::Answer;
