@@ -4,7 +4,7 @@ use lib.ListN.{length}
 use Rattle.octets.specs.Lists.{keep}
 use Rattle.octets.specs.Tests.{bit}
 use Rattle.board.specs.declared.Row.{Row}
-use Rattle.board.specs.declared.counting.Tally.{Tally}
+use Rattle.board.specs.declared.Tally.{Tally}
 use Rattle.board.specs.Entries.{Entry, taken, isJoined, linkIds}
 use Rattle.board.specs.RowTests.{takenRow, joinedRow, linkedRow}
 

@@ -86,7 +86,7 @@ fn set_link_id(row: Row, reference: CallReference, id: LinkId) -> Row
     }
 }
 
-fn is_delivered(call: Call) -> bool
+pub fn is_delivered(call: Call) -> bool
     ensures { λ r. ⌜ r ≡ delivered call ⌝ }
 {
     let state = call.state;

@@ -5,9 +5,7 @@ ghost use mathlib.Core.Path.{_≡_};
 ghost use Rattle.board.specs.Making.{emptyRow, emptyBoard, unmade, fresh as freshBoard};
 
 pub mod changing;
-pub mod counting;
 pub mod finding;
-pub mod soundness;
 
 // 0 outgoing, 1 incoming.
 pub enum Direction {
@@ -126,6 +124,13 @@ pub struct Made {
 pub enum Found {
     At(usize),
     Nothing,
+}
+
+// Legs, joined rows and live LinkIds.
+pub struct Tally {
+    pub legs: usize,
+    pub joined: usize,
+    pub links: usize,
 }
 
 // What the count answers: 0 and the three counts, or 2 and zeros.

@@ -11,7 +11,7 @@ use Rattle.board.specs.Entries.{occupied}
 use Rattle.board.specs.Keys.{matchesKey}
 use Rattle.board.specs.Lookup.{foundAt}
 use Rattle.board.specs.declared.Row.{Row}
-use Rattle.ect.proofs.PartyLaws.{noRow}
+use Rattle.serving.proofs.PartyLaws.{noRow}
 use Rattle.octets.proofs.Places.{place-cons, place-ext}
 use Rattle.octets.specs.Lists.{find, placeFrom, orElse}
 use Rattle.rules.specs.Replies.{numberOfRow, numberAt, markOnly}

@@ -15,7 +15,7 @@ use Rattle.rules.specs.Step.{boardAfter, replies}
 use Rattle.ect.specs.declared.effects.Verdict.{Verdict}
 use Rattle.ect.specs.declared.effects.Verdict.the-variants.{Accepted, Refused}
 use Rattle.ect.specs.declared.effects.Effect.{Effect}
-use Rattle.ect.specs.Parties.{entriesOf}
+use Rattle.serving.specs.Parties.{entriesOf}
 use Rattle.ect.specs.ReplyValues.{Says}
 
 -- the row that an Open enters

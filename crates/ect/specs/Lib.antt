@@ -1,4 +1,3 @@
-pub mod Parties
 pub mod ReplyValues
 pub mod Effects
 pub mod Contract

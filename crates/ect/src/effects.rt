@@ -1,15 +1,11 @@
 // What an event does to a board: whether it is refused, the board afterwards, and the replies.
 use crate::digits::digits_of;
-use crate::pairing::is_delivered;
-use crate::parties::entry_at;
-use crate::parties::named;
 use crate::replies::FarParty;
 use crate::replies::Out;
 use crate::replies::Told;
 use crate::replies::empty;
 use crate::replies::number_of;
 use crate::replies::unknown;
-use crate::serving::serve;
 use board::AuxiliaryState;
 use board::Board;
 use board::Call;
@@ -25,6 +21,7 @@ use board::Party;
 use board::Row;
 use board::Standing;
 use board::changing::change;
+use board::changing::is_delivered;
 use board::changing::open_row;
 use board::finding::Key;
 use board::finding::find;
@@ -35,14 +32,17 @@ use events::records::read_request;
 use octets::CallReference;
 use octets::IntegerOctets;
 use octets::LinkId;
+use row_tests::is_holdable;
 use rules::Service;
+use serving::parties::entry_at;
+use serving::parties::named;
+use serving::serve;
 ghost use mathlib.Core.Path.{_≡_};
-ghost use Rattle.board.specs.States.{holdable};
 ghost use Rattle.rules.specs.Replies.{numberAt};
 ghost use Rattle.rules.specs.Checks.{Refuse, ServeCall, firstState, mayProgress, mayHold, entryAt};
 ghost use Rattle.rules.specs.Checks.{decideProgress, decideHold, decideRelease, decideAnswer};
 ghost use Rattle.rules.specs.Step.{decision};
-ghost use Rattle.ect.specs.Parties.{entriesOf, namedOn};
+ghost use Rattle.serving.specs.Parties.{entriesOf, namedOn};
 ghost use Rattle.ect.specs.ReplyValues.{numberTold, Describes};
 ghost use Rattle.ect.specs.Effects.{Carries, openedRow, openOn, facilityOn};
 
@@ -177,17 +177,6 @@ fn progress(board: Board, reference: CallReference, state: CallState) -> Effect
         };
     }
     refuse(board, Refusal::NotPermitted)
-}
-
-fn is_holdable(state: CallState) -> bool
-    ensures { λ r. ⌜ r ≡ holdable state ⌝ }
-{
-    match state {
-        CallState::OutgoingCallProceeding => false,
-        CallState::CallDelivered => true,
-        CallState::CallReceived => false,
-        CallState::Active => true,
-    }
 }
 
 fn may_hold(from: AuxiliaryState, to: AuxiliaryState) -> bool

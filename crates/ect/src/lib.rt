@@ -1,18 +1,15 @@
 // The network side of Explicit Call Transfer for one access: one call for every event.
 use board::Board;
-use board::soundness::sound;
 use effects::Verdict;
 use effects::effect_of;
 use events::Refusal;
 use replies::copy_out;
+use soundness::sound;
 ghost use Rattle.ect.specs.Contract.{Steps};
 
 mod digits;
 mod effects;
-mod pairing;
-mod parties;
 mod replies;
-mod serving;
 
 // Accepted, with the number of octets written; or refused.
 pub enum StepAnswer {

@@ -7,12 +7,12 @@ mod records;
 
 use board::Board;
 use board::Counted;
-use board::counting::count;
 use board::fresh;
 use libc::STDIN_FILENO;
 use libc::STDOUT_FILENO;
 use playing::Pause;
 use playing::play;
+use soundness::count;
 ghost use Prim.Native.Nat.{_+_, _≤_};
 ghost use lib.ListN.{length};
 

@@ -11,7 +11,7 @@ use Rattle.octets.specs.Lists.{any, all, distinct}
 use Rattle.octets.proofs.Loops.{Step, Counting, step-at, past-end, count-start, count-step, count-end}
 use Rattle.board.specs.declared.Row.{Row}
 use Rattle.board.specs.declared.Counted.the-variants.{Counts, Unsound}
-use Rattle.board.specs.declared.counting.Tally.{Tally}
+use Rattle.board.specs.declared.Tally.{Tally}
 use Rattle.board.specs.Entries.{taken}
 use Rattle.board.specs.Soundness.{soundRows}
 use Rattle.board.specs.Counts.{counts, legs, pairs, links}

@@ -8,12 +8,12 @@ ghost use Rattle.rows.specs.Steps.{seen, meeting, among, added, counted}
 use board::Counted;
 use board::Found;
 use board::Row;
-use board::counting::row_tally;
 use board::finding::is_call_of;
-use board::soundness::row_fits;
-use board::soundness::rows_clash;
-use board::soundness::rows_paired;
 use octets::CallReference;
+use row_tests::row_fits;
+use row_tests::row_tally;
+use row_tests::rows_clash;
+use row_tests::rows_paired;
 
 // What is found once the row at that place is read: the first place found stays.
 fn see(found: Found, row: Row, reference: CallReference, place: usize) -> Found

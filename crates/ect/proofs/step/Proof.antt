@@ -4,7 +4,7 @@ use lib.ListN.{length}
 use borrow.Author.Needs.{needs}
 use Rattle.octets.proofs.Lists.{is-not}
 use Rattle.octets.proofs.Places.{told}
-use Rattle.ect.proofs.PairingLaws.{was-true}
+use Rattle.serving.proofs.PairingLaws.{was-true}
 use Rattle.ect.proofs.StepLaws.{too-small, not-sound, step-refuses, step-accepts}
 use Rattle.ect.proofs.step.Statement.{statement}
 use Rattle.ect.proofs.step.Tie as tie

@@ -2,7 +2,7 @@ use mathlib.Core.Path.{sym, ap, _∙_}
 use Rattle.octets.proofs.Places.{told}
 use Rattle.board.specs.Entries.{taken, calls}
 use Rattle.rules.specs.Checks.{named, entryAt}
-use Rattle.ect.proofs.PartyLaws.{party-none, party-some, entry-none, entry-some}
+use Rattle.serving.proofs.PartyLaws.{party-none, party-some, entry-none, entry-some}
 use Rattle.rules.specs.Serving.{serve}
 use Rattle.ect.proofs.EffectLaws.{facility-none, facility-some, service-is}
 use borrow.Author.Needs.{needs}

@@ -4,7 +4,7 @@ use mathlib.Core.Path.{_∙_}
 use Rattle.octets.proofs.Places.{told}
 use Rattle.board.specs.declared.finding.Key.the-variants as key
 use Rattle.board.proofs.Long.{board-long}
-use Rattle.ect.proofs.PartyLaws.{row-below}
+use Rattle.serving.proofs.PartyLaws.{row-below}
 use Rattle.ect.proofs.NumberLaws.{number-here, number-nowhere}
 use borrow.Author.Needs.{needs}
 use Rattle.ect.proofs.effects.number_at.Statement.{statement}

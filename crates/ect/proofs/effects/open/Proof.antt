@@ -2,7 +2,7 @@ use mathlib.Core.Path.{sym, ap, _∙_}
 use Rattle.octets.proofs.Places.{told}
 use Rattle.board.specs.Entries.{taken}
 use Rattle.rules.specs.Checks.{named, entryAt}
-use Rattle.ect.proofs.PartyLaws.{party-none, party-some, entry-none, entry-some}
+use Rattle.serving.proofs.PartyLaws.{party-none, party-some, entry-none, entry-some}
 use Rattle.octets.specs.Lists.{any, placeFrom}
 use Rattle.board.specs.declared.Row.{Row}
 use Rattle.board.specs.declared.finding.Key.the-variants as key

@@ -2,7 +2,7 @@ use mathlib.Core.Path.{sym, ap, _∙_}
 use Rattle.octets.proofs.Places.{told}
 use Rattle.board.specs.Entries.{taken}
 use Rattle.rules.specs.Checks.{named, entryAt}
-use Rattle.ect.proofs.PartyLaws.{party-none, party-some, entry-none, entry-some}
+use Rattle.serving.proofs.PartyLaws.{party-none, party-some, entry-none, entry-some}
 use mathlib.Core.Option.{Option, some}
 use Rattle.board.specs.declared.Connection.{Connection}
 use Rattle.board.specs.declared.Entry.{Entry}

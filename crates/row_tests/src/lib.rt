@@ -1,0 +1,332 @@
+// The tests of one row and of two rows that soundness is made of, and what a row adds to the counts.
+ghost use mathlib.Core.Path.{_≡_};
+ghost use mathlib.Core.Bool.{_&&_};
+ghost use Prim.Native.Nat.{ℕ, _≤_};
+ghost use lib.Dec.{leb};
+ghost use lib.ListN.{take, drop};
+ghost use Rattle.octets.specs.Lists.{all};
+ghost use Rattle.octets.specs.Tests.{has, noneOr, hasBoth};
+ghost use Rattle.octets.specs.Numbers.{sameLinkId};
+ghost use Rattle.board.specs.States.{sameAuxiliary, validDirection, holdable, validCall};
+ghost use Rattle.board.specs.Entries.{rowEntry, linkIdIn};
+ghost use Rattle.board.specs.Soundness.{zeros, validDigits, validParty, validStanding, validEntry, sameLinkIdsIn, answersTo};
+ghost use Rattle.board.specs.RowTests.{fits, sharing, callsShare, clash, paired, takenRow};
+ghost use Rattle.board.specs.Tallies.{rowTally};
+use board::AuxiliaryState;
+use board::Call;
+use board::CallState;
+use board::Direction;
+use board::OptionalLinkId;
+use board::Row;
+use board::Standing;
+use board::Tally;
+use octets::LinkId;
+
+fn direction_valid(state: CallState, direction: Direction) -> bool
+    ensures { λ r. ⌜ r ≡ validDirection state direction ⌝ }
+{
+    match state {
+        CallState::OutgoingCallProceeding => match direction {
+            Direction::Outgoing => true,
+            Direction::Incoming => false,
+        },
+        CallState::CallDelivered => match direction {
+            Direction::Outgoing => true,
+            Direction::Incoming => false,
+        },
+        CallState::CallReceived => match direction {
+            Direction::Outgoing => false,
+            Direction::Incoming => true,
+        },
+        CallState::Active => match direction {
+            Direction::Outgoing => true,
+            Direction::Incoming => true,
+        },
+    }
+}
+
+fn is_idle(auxiliary: AuxiliaryState) -> bool
+    ensures { λ r. ⌜ r ≡ sameAuxiliary auxiliary AuxiliaryState.Idle ⌝ }
+{
+    match auxiliary {
+        AuxiliaryState::Idle => true,
+        AuxiliaryState::HoldRequest => false,
+        AuxiliaryState::CallHeld => false,
+        AuxiliaryState::RetrieveRequest => false,
+    }
+}
+
+pub fn is_holdable(state: CallState) -> bool
+    ensures { λ r. ⌜ r ≡ holdable state ⌝ }
+{
+    match state {
+        CallState::OutgoingCallProceeding => false,
+        CallState::CallDelivered => true,
+        CallState::CallReceived => false,
+        CallState::Active => true,
+    }
+}
+
+fn call_valid(call: Call) -> bool
+    ensures { λ r. ⌜ r ≡ validCall call ⌝ }
+{
+    let state = call.state;
+    let direction = call.direction;
+    let auxiliary = call.auxiliary;
+    if call.reference.0 % 32768 == 0 {
+        return false;
+    }
+    if direction_valid(state, direction) {} else {
+        return false;
+    }
+    if is_idle(auxiliary) {
+        return true;
+    }
+    is_holdable(state)
+}
+
+fn leads_with_digits(n: usize, digits: [u8; 15]) -> bool
+    requires { ⌜ n ≤ 15 ⌝ }
+    ensures { λ r. ⌜ r ≡ all (λ (d : ℕ). leb 48 d && leb d 57) (take n digits) ⌝ }
+{
+    for k in 0..n {
+        let d = digits[k];
+        if d < 48 {
+            return false;
+        }
+        if 57 < d {
+            return false;
+        }
+    }
+    true
+}
+
+fn ends_with_zeros(n: usize, digits: [u8; 15]) -> bool
+    requires { ⌜ n ≤ 15 ⌝ }
+    ensures { λ r. ⌜ r ≡ zeros (drop n digits) ⌝ }
+{
+    for k in n..15 {
+        if digits[k] == 0 {} else {
+            return false;
+        }
+    }
+    true
+}
+
+// Its bounds are constants, so that it compiles to a few instructions: most rows are empty.
+fn no_digits(digits: [u8; 15]) -> bool
+    ensures { λ r. ⌜ r ≡ zeros digits ⌝ }
+{
+    for k in 0..15 {
+        if digits[k] == 0 {} else {
+            return false;
+        }
+    }
+    true
+}
+
+fn digits_valid(count: u8, digits: [u8; 15]) -> bool
+    ensures { λ r. ⌜ r ≡ validDigits count digits ⌝ }
+{
+    if 15 < count {
+        return false;
+    }
+    let n = count as usize;
+    if leads_with_digits(n, digits) {} else {
+        return false;
+    }
+    ends_with_zeros(n, digits)
+}
+
+fn empty_fits(row: Row) -> bool
+    ensures { λ r. ⌜ r ≡ validStanding (row .leg) (row .presentation) (row .count) (row .digits) Standing.Empty ⌝ }
+{
+    let digits = row.digits;
+    if row.leg == 0 {} else {
+        return false;
+    }
+    if row.presentation == 0 {} else {
+        return false;
+    }
+    if row.count == 0 {} else {
+        return false;
+    }
+    no_digits(digits)
+}
+
+fn party_fits(row: Row) -> bool
+    ensures { λ r. ⌜ r ≡ validParty (row .presentation) (row .count) (row .digits) ⌝ }
+{
+    let digits = row.digits;
+    if 1 < row.presentation {
+        return false;
+    }
+    digits_valid(row.count, digits)
+}
+
+pub fn is_taken(row: Row) -> bool
+    ensures { λ r. ⌜ r ≡ takenRow row ⌝ }
+{
+    let standing = row.standing;
+    match standing {
+        Standing::Empty => false,
+        Standing::Served(_) => true,
+        Standing::Joined { .. } => true,
+    }
+}
+
+fn call_fits(row: Row) -> bool
+    ensures { λ r. ⌜ r ≡ noneOr validEntry (rowEntry row) ⌝ }
+{
+    let standing = row.standing;
+    match standing {
+        Standing::Empty => true,
+        Standing::Served(call) => call_valid(call),
+        Standing::Joined { .. } => true,
+    }
+}
+
+// The fields of one row obey their rules.
+pub fn row_fits(row: Row) -> bool
+    ensures { λ r. ⌜ r ≡ fits row ⌝ }
+{
+    if is_taken(row) {
+        if call_fits(row) {
+            return party_fits(row);
+        }
+        return false;
+    }
+    empty_fits(row)
+}
+
+fn same_link_id(a: LinkId, b: LinkId) -> bool
+    ensures { λ r. ⌜ r ≡ sameLinkId (a .0) (b .0) ⌝ }
+{
+    a.0 == b.0
+}
+
+fn links_clash(a: OptionalLinkId, b: OptionalLinkId) -> bool
+    ensures { λ r. ⌜ r ≡ sameLinkIdsIn (linkIdIn a) (linkIdIn b) ⌝ }
+{
+    match a {
+        OptionalLinkId::Absent => false,
+        OptionalLinkId::Present(l) => match b {
+            OptionalLinkId::Absent => false,
+            OptionalLinkId::Present(m) => same_link_id(l, m),
+        },
+    }
+}
+
+fn calls_clash(a: Call, b: Call) -> bool
+    ensures { λ r. ⌜ r ≡ callsShare a b ⌝ }
+{
+    let k = a.link;
+    let l = b.link;
+    if a.reference.0 == b.reference.0 {
+        return true;
+    }
+    links_clash(k, l)
+}
+
+fn standings_clash(a: Row, b: Row) -> bool
+    ensures { λ r. ⌜ r ≡ hasBoth sharing (rowEntry a) (rowEntry b) ⌝ }
+{
+    let s = a.standing;
+    let t = b.standing;
+    match s {
+        Standing::Empty => false,
+        Standing::Joined { .. } => false,
+        Standing::Served(c) => match t {
+            Standing::Empty => false,
+            Standing::Joined { .. } => false,
+            Standing::Served(d) => calls_clash(c, d),
+        },
+    }
+}
+
+// Two rows share a leg, a reference or a LinkId.
+pub fn rows_clash(a: Row, b: Row) -> bool
+    ensures { λ r. ⌜ r ≡ clash a b ⌝ }
+{
+    if a.leg == b.leg {
+        if is_taken(a) {
+            return is_taken(b);
+        }
+        return false;
+    }
+    standings_clash(a, b)
+}
+
+// Whether a row has the leg `partner` and is joined back to the leg `own`, not alerting where that one does.
+fn row_answers(row: Row, own: u32, partner: u32, alerting: bool) -> bool
+    ensures { λ r. ⌜ r ≡ has (answersTo own partner alerting) (rowEntry row) ⌝ }
+{
+    let standing = row.standing;
+    if partner == row.leg {} else {
+        return false;
+    }
+    match standing {
+        Standing::Empty => false,
+        Standing::Served(_) => false,
+        Standing::Joined {
+            partner: p,
+            alerting: a,
+        } => {
+            if own == p {} else {
+                return false;
+            }
+            if alerting { !a } else { true }
+        }
+    }
+}
+
+// Whether `b` is the partner of `a`, or `a` needs none.
+pub fn rows_paired(a: Row, b: Row) -> bool
+    ensures { λ r. ⌜ r ≡ paired a b ⌝ }
+{
+    let standing = a.standing;
+    match standing {
+        Standing::Empty => true,
+        Standing::Served(_) => true,
+        Standing::Joined { partner, alerting } => {
+            if a.leg == partner {
+                return false;
+            }
+            row_answers(b, a.leg, partner, alerting)
+        }
+    }
+}
+
+// What one row adds to each count.
+pub fn row_tally(row: Row) -> Tally
+    ensures { λ r. ⌜ r ≡ rowTally row ⌝ }
+{
+    let standing = row.standing;
+    match standing {
+        Standing::Empty => Tally {
+            legs: 0,
+            joined: 0,
+            links: 0,
+        },
+        Standing::Joined { .. } => Tally {
+            legs: 1,
+            joined: 1,
+            links: 0,
+        },
+        Standing::Served(call) => {
+            let link = call.link;
+            match link {
+                OptionalLinkId::Absent => Tally {
+                    legs: 1,
+                    joined: 0,
+                    links: 0,
+                },
+                OptionalLinkId::Present(_) => Tally {
+                    legs: 1,
+                    joined: 0,
+                    links: 1,
+                },
+            }
+        }
+    }
+}

@@ -1,0 +1,153 @@
+-- The pair rule by its tests, and the one party that passes a test, by the places of the rows that have such a party.
+use Prim.Native.Nat.{_+_, ℕ, suc}
+use native.Mathlib.Omega.{arith}
+use mathlib.Core.Path.{_∙_, refl, sym, ap, ap₂, _≡_, subst}
+use mathlib.Core.Bool.{_&&_, _||_, true, Bool, not, false, cond}
+use mathlib.Core.List.{_∷_, List, []}
+use mathlib.Core.Option.{some, Option, none, Option·map}
+use lib.ListN.{getD, drop}
+use Rattle.board.proofs.Searches.{calls-of-rows, rowParty, found-nothing, found-at}
+use Rattle.board.specs.Entries.{calls, taken, foundParty}
+use Rattle.board.specs.Lookup.{foundAt}
+use Rattle.board.specs.States.{active}
+use Rattle.board.specs.declared.Call.{Call}
+use Rattle.board.specs.declared.Party.{Party}
+use Rattle.board.specs.declared.Row.{Row}
+use Rattle.serving.proofs.PartyLaws.{noRow, party-in}
+use Rattle.serving.specs.Parties.{partyIn}
+use Rattle.octets.proofs.Lists.{true-not-false, left, all-by, keep-mem}
+use Rattle.octets.proofs.Places.{place-cons, place-lowest}
+use Rattle.octets.specs.Lists.{all, keep, pick, consIf, consOpt, only, placeFrom, orElse}
+use Rattle.octets.specs.Tests.{has}
+use Rattle.rules.specs.Pairing.{verdict, heldWithIdle, activeWithDelivered}
+use native.Mathlib.Numerals.{add-one}
+use Rattle.board.specs.declared.Found.the-variants.{At, Nothing}
+use Rattle.board.specs.declared.FoundParty.the-variants as found-party
+
+-- ---- the verdict
+
+pub was-true : (b : Bool) → not b ≡ false → b ≡ true
+was-true true h = refl
+was-true false h = sym h
+
+module _ (c d : Call) where
+  pub verdict-not-held : heldWithIdle c d ≡ false → 0 ≡ verdict c d
+  verdict-not-held h = sym (ap (λ (b : Bool). cond {A = ℕ} b (cond (active c && active d) 1 (cond (activeWithDelivered c d || activeWithDelivered d c) 2 0)) 0) h)
+
+  module _ (h : heldWithIdle c d ≡ true) where
+    held-verdict : verdict c d ≡ cond (active c && active d) 1 (cond (activeWithDelivered c d || activeWithDelivered d c) 2 0)
+    held-verdict = ap (λ (b : Bool). cond {A = ℕ} b (cond (active c && active d) 1 (cond (activeWithDelivered c d || activeWithDelivered d c) 2 0)) 0) h
+
+    pub verdict-active : (active c && active d) ≡ true → 1 ≡ verdict c d
+    verdict-active a = sym (held-verdict ∙ ap (λ (b : Bool). cond {A = ℕ} b 1 (cond (activeWithDelivered c d || activeWithDelivered d c) 2 0)) a)
+
+    pub verdict-delivered : (active c && active d) ≡ false → (activeWithDelivered c d || activeWithDelivered d c) ≡ true → 2 ≡ verdict c d
+    verdict-delivered a e = sym (held-verdict ∙ ap₂ (λ (x y : Bool). cond {A = ℕ} x 1 (cond y 2 0)) a e)
+
+    pub verdict-neither : (active c && active d) ≡ false → (activeWithDelivered c d || activeWithDelivered d c) ≡ false → 0 ≡ verdict c d
+    verdict-neither a e = sym (held-verdict ∙ ap₂ (λ (x y : Bool). cond {A = ℕ} x 1 (cond y 2 0)) a e)
+
+-- ---- the one party of the rows that passes a test
+
+module _ (q : Party → Bool) where
+  abbrev found : Row → Bool
+  found r = has q (partyIn r)
+
+  keep-pick : (l : List Row) → keep q (pick partyIn l) ≡ pick partyIn (keep found l)
+  keep-pick [] = refl
+  keep-pick (x ∷ l) = go (partyIn x) refl (keep-pick l)
+    where
+      put : (b : Bool) (y : Party) → partyIn x ≡ some y → keep q (pick partyIn l) ≡ pick partyIn (keep found l) → consIf b y (keep q (pick partyIn l)) ≡ pick partyIn (consIf b x (keep found l))
+      put true y e h = ap₂ (λ (r : List Party) (o : Option Party). consOpt o r) h (sym e)
+      put false y e h = h
+
+      go : (o : Option Party) → partyIn x ≡ o → keep q (pick partyIn l) ≡ pick partyIn (keep found l) → keep q (consOpt o (pick partyIn l)) ≡ pick partyIn (consIf (has q o) x (keep found l))
+      go none e h = h
+      go (some y) e h = put (q y) y e h
+
+  -- alone, the party; with another after it, none
+  abbrev one : Option Party → List Row → Option Party
+  one o [] = o
+  one o (x ∷ l) = none
+
+  only-first : (x : Row) (l : List Row) → found x ≡ true → all found l ≡ true → only (pick partyIn (x ∷ l)) ≡ one (partyIn x) l
+  only-first x [] h k = go (partyIn x) h
+    where
+      go : (o : Option Party) → has q o ≡ true → only (consOpt o []) ≡ o
+      go none u = absurd (true-not-false u refl)
+      go (some y) u = refl
+  only-first x (z ∷ l) h k = go (partyIn x) (partyIn z) h (left (found z) _ k)
+    where
+      go : (o u : Option Party) → has q o ≡ true → has q u ≡ true → only (consOpt o (consOpt u (pick partyIn l))) ≡ none
+      go none u a b = absurd (true-not-false a refl)
+      go (some y) none a b = absurd (true-not-false b refl)
+      go (some y) (some w) a b = refl
+
+  kept-pass : (l : List Row) → all found (keep found l) ≡ true
+  kept-pass l = all-by found (keep found l) (λ x m. keep-mem found l m .1)
+
+-- what is kept of a list starts at the lowest place that passes
+keep-from : (p : Row → Bool) (l : List Row) (i : ℕ) → placeFrom p 0 l ≡ some i → keep p l ≡ getD l i noRow ∷ keep p (drop (suc i) l)
+unfolding placeFrom
+keep-from p [] i e = let z : _≡_ {A = ℕ} 0 1 = cc in absurd (omega arith)
+keep-from p (x ∷ l) i e = go (p x) refl (placeFrom p 0 l) (keep-from p l) (sym (place-cons p x l) ∙ e)
+  where
+    go : (b : Bool) → p x ≡ b → (o : Option ℕ) → ((j : ℕ) → o ≡ some j → keep p l ≡ getD l j noRow ∷ keep p (drop (suc j) l)) → orElse b 0 (Option·map suc o) ≡ some i →
+        consIf b x (keep p l) ≡ getD (x ∷ l) i noRow ∷ keep p (drop (suc i) (x ∷ l))
+    go true b o f q = let z : 0 ≡ i = cc in subst (λ (n : ℕ). x ∷ keep p l ≡ getD (x ∷ l) n noRow ∷ keep p (drop (suc n) (x ∷ l))) z refl
+    go false b none f q = let z : _≡_ {A = ℕ} 0 1 = cc in absurd (omega arith)
+    go false b (some j) f q = let z : suc j ≡ i = cc in subst (λ (n : ℕ). keep p l ≡ getD (x ∷ l) n noRow ∷ keep p (drop (suc n) (x ∷ l))) z (f j refl)
+
+-- from any place on: nothing found, nothing kept; something found, something kept
+none-kept : (p : Row → Bool) (k : ℕ) (l : List Row) → placeFrom p k l ≡ none → keep p l ≡ []
+unfolding placeFrom
+none-kept p k [] e = refl
+none-kept p k (x ∷ l) e = go (p x) e (none-kept p (suc k) l)
+  where
+    go : (b : Bool) → orElse b k (placeFrom p (suc k) l) ≡ none → (placeFrom p (suc k) l ≡ none → keep p l ≡ []) → consIf b x (keep p l) ≡ []
+    go true q f = let z : _≡_ {A = ℕ} 0 1 = cc in absurd (omega arith)
+    go false q f = f q
+
+abbrev NotEmpty : List Row → Type 0
+NotEmpty l = (x : Row) × (xs : List Row) × (l ≡ x ∷ xs)
+
+some-kept : (p : Row → Bool) (k : ℕ) (l : List Row) {j : ℕ} → placeFrom p k l ≡ some j → NotEmpty (keep p l)
+unfolding placeFrom
+some-kept p k [] e = let z : _≡_ {A = ℕ} 0 1 = cc in absurd (omega arith)
+some-kept p k (x ∷ l) {j} e = go (p x) e (λ h. some-kept p (suc k) l {j = j} h)
+  where
+    go : (b : Bool) → orElse b k (placeFrom p (suc k) l) ≡ some j → (placeFrom p (suc k) l ≡ some j → NotEmpty (keep p l)) → NotEmpty (consIf b x (keep p l))
+    go true q f = (x, keep p l, refl)
+    go false q f = f q
+
+module _ (q : Party → Bool) (rows : List Row) where
+  calls-in : calls (taken rows) ≡ pick partyIn rows
+  calls-in = calls-of-rows rows ∙ go rows
+    where
+      go : (l : List Row) → pick rowParty l ≡ pick partyIn l
+      go [] = refl
+      go (x ∷ l) = ap₂ consOpt (party-in x) (go l)
+
+  kept-calls : keep q (calls (taken rows)) ≡ pick partyIn (keep (found q) rows)
+  kept-calls = ap (keep q) calls-in ∙ keep-pick q rows
+
+  pub only-nowhere : foundAt (placeFrom (found q) 0 (drop 0 rows)) ≡ Nothing → found-party.Nothing ≡ foundParty (only (keep q (calls (taken rows))))
+  only-nowhere e = sym (ap (λ (l : List Party). foundParty (only l)) (kept-calls ∙ ap (pick partyIn) (none-kept (found q) 0 rows (found-nothing (placeFrom (found q) 0 rows) e))))
+
+  module _ {i : ℕ} (e : foundAt (placeFrom (found q) 0 rows) ≡ At i) where
+    first : keep (found q) rows ≡ getD rows i noRow ∷ keep (found q) (drop (suc i) rows)
+    first = keep-from (found q) rows i (found-at (placeFrom (found q) 0 rows) i e)
+
+    there : found q (getD rows i noRow) ≡ true
+    there = place-lowest (found q) noRow rows i (found-at (placeFrom (found q) 0 rows) i e) .passes
+
+    only-is : only (keep q (calls (taken rows))) ≡ one q (partyIn (getD rows i noRow)) (keep (found q) (drop (suc i) rows))
+    only-is = ap only (kept-calls ∙ ap (pick partyIn) first) ∙ only-first q (getD rows i noRow) (keep (found q) (drop (suc i) rows)) there (kept-pass q (drop (suc i) rows))
+
+    pub only-here : foundAt (placeFrom (found q) (i + 1) (drop (i + 1) rows)) ≡ Nothing → foundParty (only (keep q (calls (taken rows)))) ≡ foundParty (partyIn (getD rows i noRow))
+    only-here n = ap foundParty (only-is ∙ ap (one q (partyIn (getD rows i noRow))) (subst (λ (k : ℕ). keep (found q) (drop k rows) ≡ []) (add-one i) (none-kept (found q) (i + 1) (drop (i + 1) rows) (found-nothing (placeFrom (found q) (i + 1) (drop (i + 1) rows)) n))))
+
+    pub only-several : {j : ℕ} → foundAt (placeFrom (found q) (i + 1) (drop (i + 1) rows)) ≡ At j → found-party.Nothing ≡ foundParty (only (keep q (calls (taken rows))))
+    only-several {j} n =
+        let m = some-kept (found q) (i + 1) (drop (i + 1) rows) (found-at (placeFrom (found q) (i + 1) (drop (i + 1) rows)) j n) in
+        sym (ap foundParty (only-is ∙ ap (one q (partyIn (getD rows i noRow))) (subst (λ (k : ℕ). keep (found q) (drop k rows) ≡ m .0 ∷ m .1) (add-one i) (m .2))))

@@ -1,0 +1,69 @@
+-- Serving by the answers of the code's searches and counts.
+use borrow.Author.Tests.{le-leb, lt-leb}
+use Prim.Native.Nat.{_<_, _≤_, ℕ}
+use native.Mathlib.Omega.{arith}
+use mathlib.Core.Path.{_∙_, refl, ap, sym, _≡_}
+use mathlib.Core.Bool.{Bool, cond}
+use mathlib.Core.List.{_∷_, List, []}
+use mathlib.Core.Option.{none, Option, some}
+use lib.Dec.{leb}
+use lib.ListN.{length}
+use lib.IntN.{ℤ}
+use Rattle.board.specs.Counts.{links}
+use Rattle.board.specs.Entries.{linkIdOf, calls, partyOf, linkIdIn, taken}
+use Rattle.board.specs.LinkIds.{freeLinkId, liveLinkIds, optionalLinkId}
+use Rattle.board.specs.Tallies.{tallyOf}
+use Rattle.board.specs.declared.Connection.{Connection}
+use Rattle.board.specs.declared.Connection.the-variants.{WithUser, WithPartner}
+use Rattle.board.specs.declared.Entry.{Entry}
+use Rattle.board.specs.declared.Row.{Row}
+use Rattle.octets.proofs.Laws.{link}
+use Rattle.octets.specs.Lists.{pick, consOpt}
+use Rattle.octets.specs.declared.IntegerOctets.{IntegerOctets}
+use Rattle.octets.specs.declared.LinkId.{LinkId}
+use Rattle.rules.proofs.Kept.{live-length}
+use Rattle.rules.specs.Serving.{live, newLinkId, error, assign}
+use Rattle.rules.specs.declared.Service.{Service}
+use Rattle.rules.specs.declared.Service.the-variants.{AssignLinkId}
+use Rattle.board.specs.declared.OptionalLinkId.the-variants.{Absent, Present}
+use Rattle.board.specs.declared.Tally.{Tally}
+
+live-is : (es : List Entry) → pick (λ (e : Entry). linkIdOf (e .connection)) es ≡ live (calls es)
+live-is [] = refl
+live-is (e ∷ es) = go (e .leg) (e .connection) (live-is es)
+  where
+    go : (n : ℕ) (t : Connection) → pick (λ (e : Entry). linkIdOf (e .connection)) es ≡ live (calls es) →
+        consOpt (linkIdOf t) (pick (λ (e : Entry). linkIdOf (e .connection)) es) ≡ live (consOpt (partyOf n t) (calls es))
+    go n (WithUser c) h = ap (consOpt (linkIdIn (c .link))) h
+    go n (WithPartner p a) h = h
+
+module _ (rows : List Row) (z : ℤ) (i : IntegerOctets) {t : Tally} (tally : t ≡ tallyOf rows) where
+  abbrev New : Service → Type 0
+  New s = s ≡ newLinkId (length (live (calls (taken rows)))) i (freeLinkId 16 z (live (calls (taken rows))))
+
+  links-are : t .links ≡ length (live (calls (taken rows)))
+  unfolding tallyOf
+  links-are = ap (λ (x : Tally). x .links) tally ∙ sym (live-length (taken rows))
+
+  pub new-full : 16 ≤ t .links → New (error i 11)
+  new-full h = sym (ap (λ (b : Bool). cond b (error i 11) (assign i (freeLinkId 16 z (live (calls (taken rows)))))) (ap (leb 16) (sym links-are) ∙ le-leb 16 (t .links) h))
+
+  module _ (h : t .links < 16) where
+    room : newLinkId (length (live (calls (taken rows)))) i (freeLinkId 16 z (live (calls (taken rows)))) ≡ assign i (freeLinkId 16 z (liveLinkIds rows))
+    room =
+        ap (λ (b : Bool). cond b (error i 11) (assign i (freeLinkId 16 z (live (calls (taken rows)))))) (ap (leb 16) (sym links-are) ∙ lt-leb 16 (t .links) h)
+        ∙ ap (λ (l : List ℤ). assign i (freeLinkId 16 z l)) (sym (live-is (taken rows)))
+
+    absent-none : (o : Option ℤ) → optionalLinkId o ≡ Absent → o ≡ none
+    absent-none none e = refl
+    absent-none (some y) e = let z : _≡_ {A = ℕ} 0 1 = cc in absurd (omega arith)
+
+    given : (o : Option ℤ) {id : LinkId} → optionalLinkId o ≡ Present id → assign i o ≡ AssignLinkId id i
+    given none e = let z : _≡_ {A = ℕ} 0 1 = cc in absurd (omega arith)
+    given (some y) {id} e = let d : record { 0 = y } ≡ id = cc in ap (λ (l : LinkId). AssignLinkId l i) d
+
+    pub new-none : optionalLinkId (freeLinkId 16 z (liveLinkIds rows)) ≡ Absent → New (error i 11)
+    new-none e = sym (room ∙ ap (assign i) (absent-none (freeLinkId 16 z (liveLinkIds rows)) e))
+
+    pub new-some : {id : LinkId} → optionalLinkId (freeLinkId 16 z (liveLinkIds rows)) ≡ Present id → New (AssignLinkId id i)
+    new-some e = sym (room ∙ given (freeLinkId 16 z (liveLinkIds rows)) e)

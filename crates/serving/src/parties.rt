@@ -1,0 +1,80 @@
+// The far parties that events and components name, as the rules find them among the rows taken.
+use board::Board;
+use board::Connection;
+use board::Entry;
+use board::Found;
+use board::FoundEntry;
+use board::FoundParty;
+use board::Party;
+use board::Row;
+use board::Standing;
+use board::finding::Key;
+use board::finding::find;
+use octets::CallReference;
+use octets::LinkId;
+ghost use mathlib.Core.Path.{_≡_};
+ghost use Rattle.octets.specs.Lists.{find as findIn};
+ghost use Rattle.board.specs.Entries.{rowEntry, foundEntry, foundParty};
+ghost use Rattle.rules.specs.Checks.{named as namedIn, entryAt};
+ghost use Rattle.rules.specs.Serving.{hasLinkId};
+ghost use Rattle.serving.specs.Parties.{partyIn, entriesOf, partiesOf};
+
+// The party of a row with a call.
+pub fn party_of(row: Row) -> FoundParty
+    ensures { λ r. ⌜ r ≡ foundParty (partyIn row) ⌝ }
+{
+    let standing = row.standing;
+    match standing {
+        Standing::Empty => FoundParty::Nothing,
+        Standing::Served(call) => FoundParty::This(Party { leg: row.leg, call }),
+        Standing::Joined { .. } => FoundParty::Nothing,
+    }
+}
+
+// The entry of a row that is taken.
+fn entry_of(row: Row) -> FoundEntry
+    ensures { λ r. ⌜ r ≡ foundEntry (rowEntry row) ⌝ }
+{
+    let standing = row.standing;
+    match standing {
+        Standing::Empty => FoundEntry::Nothing,
+        Standing::Served(call) => FoundEntry::This(Entry {
+            leg: row.leg,
+            connection: Connection::WithUser(call),
+        }),
+        Standing::Joined { partner, alerting } => FoundEntry::This(Entry {
+            leg: row.leg,
+            connection: Connection::WithPartner { partner, alerting },
+        }),
+    }
+}
+
+// The party whose call has the reference.
+pub fn named(board: Board, reference: CallReference) -> FoundParty
+    ensures { λ r. ⌜ r ≡ foundParty (namedIn (reference .0) (entriesOf board)) ⌝ }
+{
+    let Found::At(i) = find(board, Key::Reference(reference)) else {
+        return FoundParty::Nothing;
+    };
+    party_of(board.rows[i])
+}
+
+// The party whose call has the LinkId.
+pub fn linked(board: Board, id: LinkId) -> FoundParty
+    ensures { λ r. ⌜ r ≡ foundParty (findIn (hasLinkId id) (partiesOf board)) ⌝ }
+{
+    let Found::At(i) = find(board, Key::LinkId(id)) else {
+        return FoundParty::Nothing;
+    };
+    party_of(board.rows[i])
+}
+
+// The entry of the leg.
+pub fn entry_at(board: Board, leg: u32) -> FoundEntry
+    ensures { λ r. ⌜ r ≡ foundEntry (entryAt leg (entriesOf board)) ⌝ }
+{
+    let Found::At(i) = find(board, Key::Leg(leg)) else {
+        return FoundEntry::Nothing;
+    };
+    entry_of(board.rows[i])
+}
