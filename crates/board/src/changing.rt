@@ -3,7 +3,7 @@ ghost use mathlib.Core.Path.{_≡_};
 ghost use lib.Dec.{eqb};
 ghost use mathlib.Core.Bool.{_||_};
 ghost use Rattle.board.specs.States.{delivered};
-ghost use Rattle.board.specs.Named.{namedCall};
+ghost use Rattle.board.specs.Named.{namedCall, touched};
 ghost use Rattle.board.specs.Changes.{withState, withAuxiliary, withLinkId, mapStanding, changedCall};
 ghost use Rattle.board.specs.Changes.{joined, answered, emptiedIf, rowAfter, changedRows, enter, withRows};
 use crate::AuxiliaryState;
@@ -18,6 +18,7 @@ use crate::Standing;
 use crate::empty_row;
 use crate::finding::Key;
 use crate::finding::find;
+use crate::finding::is_call_of;
 use octets::CallReference;
 use octets::LinkId;
 
@@ -183,13 +184,32 @@ fn row_after(row: Row, change: Change) -> Row
     }
 }
 
+// Whether a change concerns the row. Most rows it leaves as they are, and telling so is quicker than making them anew.
+fn is_touched(row: Row, change: Change) -> bool
+    ensures { λ r. ⌜ r ≡ touched change row ⌝ }
+{
+    let standing = row.standing;
+    match change {
+        Change::SetState(reference, _) => is_call_of(standing, reference),
+        Change::SetAuxiliary(reference, _) => is_call_of(standing, reference),
+        Change::SetLinkId(reference, _) => is_call_of(standing, reference),
+        Change::Join(a, b) => (a == row.leg) | (b == row.leg),
+        Change::EndAlerting(leg) => leg == row.leg,
+        Change::Release(leg) => row.leg == leg,
+        Change::ReleasePair(leg, partner) => (row.leg == leg) | (row.leg == partner),
+    }
+}
+
 // The board after a change to rows that are taken.
 pub fn change(board: Board, change: Change) -> Board
     ensures { λ r. ⌜ r ≡ withRows (changedRows change (board .rows)) board ⌝ }
 {
     let mut rows = board.rows;
     for i in 0..64 {
-        rows[i] = row_after(rows[i], change);
+        let row = rows[i];
+        if is_touched(row, change) {
+            rows[i] = row_after(row, change);
+        }
     }
     Board { rows, ..board }
 }

@@ -3,7 +3,7 @@ use Prim.Native.Nat.{ℕ, zero, suc, _+_, _-_, _≤_, _<_, zero-le, suc-le-suc}
 use native.Mathlib.Nat.{le-of-suc-le-suc, not-suc-le-zero}
 use native.Mathlib.Numerals.{add-one}
 use native.Mathlib.Omega.{arith}
-use mathlib.Core.Path.{_≡_, refl, sym, ap, ap₂, _∙_}
+use mathlib.Core.Path.{_≡_, refl, sym, ap, ap₂, _∙_, subst}
 use mathlib.Core.Bool.{Bool, true, false, _||_}
 use mathlib.Core.List.{List, [], _∷_, _++_, map}
 use mathlib.Core.Option.{Option, none, some, Option·map}
@@ -186,6 +186,19 @@ module _ {A : Type 0} (f : A → A) where
   changed-step i l now d v h e w =
       ap₂ (λ (r : List A) (x : A). set r i x) e (w ∙ ap (λ (r : List A). f (getD r i d)) e ∙ ap f (changed-at i l d))
       ∙ changed-set i l d h
+      ∙ ap (λ (n : ℕ). changedTo n l) (sym (add-one i))
+
+  changed-same : (i : ℕ) (l : List A) (d : A) → i < length l → f (getD l i d) ≡ getD l i d → changedTo i l ≡ changedTo (suc i) l
+  changed-same i [] d h e = absurd (not-suc-le-zero h)
+  changed-same zero (x ∷ l) d h e = ap (λ (y : A). y ∷ l) (sym e)
+  changed-same (suc i) (x ∷ l) d h e = ap (λ (r : List A). f x ∷ r) (changed-same i l d (le-of-suc-le-suc h) e)
+
+  -- a step that leaves its element as it is
+  pub changed-kept : (i : ℕ) (l now : List A) (d : A) → i < length l → now ≡ changedTo i l → f (getD now i d) ≡ getD now i d → now ≡ changedTo (i + 1) l
+  changed-kept i l now d h e w =
+      let k = changed-at i l d in
+      e
+      ∙ changed-same i l d h (subst (λ (x : A). f x ≡ x) (ap (λ (r : List A). getD r i d) e ∙ k) w)
       ∙ ap (λ (n : ℕ). changedTo n l) (sym (add-one i))
 
   pub changed-all : (i : ℕ) (l : List A) → length l ≤ i → changedTo i l ≡ map f l

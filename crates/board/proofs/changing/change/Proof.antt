@@ -3,13 +3,15 @@ use Rattle.board.proofs.changing.change.Statement.{statement}
 use Rattle.board.proofs.changing.change.Tie as tie
 use Prim.Native.Nat.{_≤_, _-_}
 use native.Mathlib.Omega.{arith}
-use mathlib.Core.Path.{_≡_, ap, _∙_}
+use mathlib.Core.Path.{_≡_, sym, ap, _∙_}
+use mathlib.Core.Logic.{⊎-elim}
 use lib.ListN.{length}
 use mathlib.Core.List.{List}
-use Rattle.octets.proofs.Places.{changedTo, changed-step, changed-all}
+use Rattle.octets.proofs.Places.{changedTo, changed-step, changed-kept, changed-all}
 use Rattle.board.specs.declared.Row.{Row}
 use Rattle.board.specs.Changes.{rowAfter, changedRows, withRows}
 use Rattle.board.proofs.Long.{board-long}
+use Rattle.board.proofs.Standings.{untouched}
 
 abbrev Inv-loop : tie.InvT-loop
 Inv-loop board change rows₀ i₀ rows i = (i ≤ 64) × (rows ≡ changedTo (rowAfter change) i (board .rows))
@@ -23,11 +25,14 @@ long c = board-long (c .args .board) (c .good .0)
 loop-holds : tie.Need-loop-holds Inv-loop μ-loop
 loop-holds c = search needs
 
-mul-row-after : tie.Need-mul-row-after Inv-loop μ-loop
-mul-row-after c = search needs
+mul-row : tie.Need-mul-row Inv-loop μ-loop
+mul-row c = search needs
 
-array-copy-out-row-after : tie.Need-array-copy-out-row-after Inv-loop μ-loop
-array-copy-out-row-after c = search needs
+array-copy-out-row : tie.Need-array-copy-out-row Inv-loop μ-loop
+array-copy-out-row c = search needs
+
+is-touched-requires : tie.Need-is-touched-requires Inv-loop μ-loop
+is-touched-requires c κs = search needs
 
 row-after-requires : tie.Need-row-after-requires Inv-loop μ-loop
 row-after-requires c κs = search needs
@@ -46,8 +51,16 @@ loop-less c = search needs
 
 loop-again : tie.Need-loop-again Inv-loop μ-loop
 loop-again c =
-    let l = long (c .before .before .before .before .before) in
-    (search needs, changed-step _ _ _ _ _ _ (omega arith) (c .before .before .before .loop .inv .1) (c .row-after .ensures))
+    let v = c .before .before .before .before .before .before .args in
+    let l = long (c .before .before .before .before .before .before) in
+    let at = c .before .before .before .before .loop in
+    (
+      search needs,
+      ⊎-elim
+        (λ t. t .2 ∙ changed-step _ _ _ _ _ _ (omega arith) (at .inv .1) (t .1 .ensures))
+        (λ t. t .1 ∙ changed-kept (rowAfter (v .change)) (at .i) (v .board .rows) _ _ (omega arith) (at .inv .1) (untouched _ _ (sym (c .before .is-touched .ensures) ∙ t .0 .left)))
+        (c .if1 .came),
+    )
 
 returns : tie.Need-returns Inv-loop μ-loop
 unfolding changedRows
@@ -62,8 +75,9 @@ change-spec =
     Inv-loop
     μ-loop
     loop-holds
-    mul-row-after
-    array-copy-out-row-after
+    mul-row
+    array-copy-out-row
+    is-touched-requires
     row-after-requires
     mul-rows
     array-set-from-rows
