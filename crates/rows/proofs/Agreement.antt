@@ -11,6 +11,6 @@ use Rattle.board.specs.Counts.{counts}
 pub lookups-agree : (b : Board) (r : ℕ) (f g : Found) → f ≡ lookup r (b .rows) → g ≡ lookup r (b .rows) → f ≡ g
 lookups-agree b r f g e h = e ∙ sym h
 
--- `board::counting::count` gives c, and `count` and `count_in` give d
+-- `soundness::count` gives c, and `count` and `count_in` give d
 pub counts-agree : (b : Board) (c d : Counted) → c ≡ counts (b .rows) → d ≡ counts (b .rows) → c ≡ d
 counts-agree b c d e h = e ∙ sym h

@@ -53,13 +53,12 @@ loop-again : tie.Need-loop-again Inv-loop μ-loop
 loop-again c =
     let v = c .before .before .before .before .before .before .args in
     let l = long (c .before .before .before .before .before .before) in
-    let at = c .before .before .before .before .loop in
-    (
+    let at = c .before .before .before .before .loop in (
       search needs,
       ⊎-elim
-        (λ t. t .2 ∙ changed-step _ _ _ _ _ _ (omega arith) (at .inv .1) (t .1 .ensures))
-        (λ t. t .1 ∙ changed-kept (rowAfter (v .change)) (at .i) (v .board .rows) _ _ (omega arith) (at .inv .1) (untouched _ _ (sym (c .before .is-touched .ensures) ∙ t .0 .left)))
-        (c .if1 .came),
+          (λ t. t .2 ∙ changed-step _ _ _ _ _ _ (omega arith) (at .inv .1) (t .1 .ensures))
+          (λ t. t .1 ∙ changed-kept (rowAfter (v .change)) (at .i) (v .board .rows) _ _ (omega arith) (at .inv .1) (untouched _ _ (sym (c .before .is-touched .ensures) ∙ t .0 .left)))
+          (c .if1 .came),
     )
 
 returns : tie.Need-returns Inv-loop μ-loop
