@@ -4,9 +4,10 @@ use crate::records::returned;
 use crate::records::written;
 use board::Board;
 use ect::step;
+ghost use mathlib.Core.Path.{_≡_};
 ghost use Prim.Native.Nat.{_≤_, _<_};
-ghost use lib.ListN.{length};
-ghost use Rattle.ect_log.specs.Playing.{Tells};
+ghost use lib.ListN.{length, getD};
+ghost use Rattle.ect_log.specs.Playing.{Tells, frontLength, stopsReading, pauseAtEnd, Plays};
 
 // More than the longest line of a record: 20 digits, kind, number returned, twice 128 octets, spaces and the end.
 const LONGEST_LINE: usize = 512;
@@ -36,6 +37,14 @@ pub struct Told {
     pub written: usize,
 }
 
+// The kind of a record.
+fn kind_of(event: &[u8]) -> u8
+    requires { ⌜ 0 < length (now event) ⌝ }
+    ensures { λ r. ⌜ r ≡ getD (now (event .entry)) 0 0 ⌝ }
+{
+    event[0]
+}
+
 // Has the component judge a record, and writes its line.
 fn tell(board: Board, number: u64, event: &[u8], out: &mut [u8]) -> Told
     requires { ⌜ 0 < length (now event) ⌝ }
@@ -46,7 +55,8 @@ fn tell(board: Board, number: u64, event: &[u8], out: &mut [u8]) -> Told
     let answer = stepped.answer;
     let number_returned = returned(answer);
     let count = written(answer);
-    let n = log_text::record_line(number, event[0], number_returned, &reply[..count], out);
+    let kind = kind_of(event);
+    let n = log_text::record_line(number, kind, number_returned, &reply[..count], out);
     let after = stepped.board;
     Told {
         board: after,
@@ -59,7 +69,7 @@ fn tell(board: Board, number: u64, event: &[u8], out: &mut [u8]) -> Told
 // cut at the log's end; 0 where the record goes on behind the piece.
 fn front_length(piece: &[u8], is_last: bool) -> usize
     requires { ⌜ 0 < length (now piece) ⌝ }
-    ensures { λ r. ⌜ r ≤ length (now (piece .entry)) ⌝ }
+    ensures { λ r. ⌜ (r ≡ frontLength «is_last» (now (piece .entry))) × (r ≤ length (now (piece .entry))) ⌝ }
 {
     let whole = record_length(piece[0]);
     if whole <= piece.len() {
@@ -72,16 +82,15 @@ fn front_length(piece: &[u8], is_last: bool) -> usize
 }
 
 // A record that is cut, and one of a kind that is not listed, stop the reading.
-fn stops(returned: u8) -> bool {
-    if returned == 3 {
-        return true;
-    }
-    returned == 4
+fn stops(returned: u8) -> bool
+    ensures { λ r. ⌜ r ≡ stopsReading returned ⌝ }
+{
+    (returned == 3) | (returned == 4)
 }
 
 // Plays the records of a piece. A number that 64 bits do not hold is not given: the reading ends at the one before.
 pub fn play(start: Board, before: u64, piece: &[u8], is_last: bool, out: &mut [u8]) -> Played
-    ensures { λ r. ⌜ (r .read ≤ length (now (piece .entry))) × (r .written ≤ length (now (out .entry))) ⌝ }
+    ensures { λ r. ⌜ Plays start before (now (piece .entry)) «is_last» (now (out .entry)) (now (out .exit)) r ⌝ }
 {
     let mut board = start;
     let mut number = before;
@@ -140,7 +149,9 @@ pub fn play(start: Board, before: u64, piece: &[u8], is_last: bool, out: &mut [u
     }
 }
 
-fn at_end(is_last: bool) -> Pause {
+fn at_end(is_last: bool) -> Pause
+    ensures { λ r. ⌜ r ≡ pauseAtEnd «is_last» ⌝ }
+{
     if is_last {
         return Pause::End;
     }

@@ -56,6 +56,23 @@ length-within (suc f) n p = go (decLt n 10) (length-within f (n / 10))
 pub decimal-length : (n : ℕ) → length (decimal n) ≤ n / 10 + 1
 decimal-length n = length-within (suc n) n (omega arith)
 
+-- the power of ten with k zeros behind the first
+abbrev pub tenfold : ℕ → ℕ
+tenfold zero = 10
+tenfold (suc k) = 10 * tenfold k
+
+-- a number below it has at most k + 1 digits
+pub decimal-short : (k n : ℕ) → n < tenfold k → length (decimal n) ≤ suc k
+decimal-short zero n h = omega (arith, length-small n h)
+decimal-short (suc k) n h = go (decLt n 10) (decimal-short k (n / 10))
+  where
+    go : Dec (n < 10) → (n / 10 < tenfold k → length (decimal (n / 10)) ≤ suc k) → length (decimal n) ≤ suc (suc k)
+    go (yes e) more = omega (arith, length-small n e)
+    go (no e) more =
+        let m : 10 ≤ n = omega arith in
+        let p : n / 10 < tenfold k = omega (arith, h) in
+        omega (arith, length-more n m, more p)
+
 -- ---- texts written one after the other
 
 pub put-one : (b : List ℕ) (o at : ℕ) → at + 1 ≤ length b → Put (o ∷ []) b (set b at o) at (at + 1)
@@ -126,6 +143,22 @@ field-length n = length-append (decimal n) (space ∷ [])
 pub line-length : (number kind returned : ℕ) (s : List ℕ)
     → length (recordLine number kind returned s) ≡ length (decimal number) + length (decimal kind) + length (decimal returned) + 4 + length (octetsText s)
 line-length number kind returned s = simp length-append (omega arith)
+
+octets-short : (s : List ℕ) → length (octetsText s) ≤ 2 * length s + 1
+octets-short [] = rw (text-none [] refl) (omega arith)
+octets-short (o ∷ s) = rw (text-some (o ∷ s) (omega arith)) (omega (arith, hex-length (o ∷ s)))
+
+-- the line of a record whose number 64 bits hold, and whose kind and number returned are octets
+pub line-short : (number kind returned : ℕ) (s : List ℕ) → number < 18446744073709551616 → kind < 256 → returned < 256 → length s ≤ 128
+    → length (recordLine number kind returned s) ≤ 512
+line-short number kind returned s h k r l = omega (
+  arith,
+  line-length number kind returned s,
+  decimal-short 19 number (omega (arith, h)),
+  decimal-length kind,
+  decimal-length returned,
+  octets-short s,
+)
 
 pub end-length : (legs pairs links : ℕ) → length (endLine legs pairs links) ≡ length (decimal legs) + length (decimal pairs) + length (decimal links) + 7
 end-length legs pairs links = simp length-append (omega arith)

@@ -1,14 +1,21 @@
 -- `ect_log::playing::play` meets its contract. Assumes nothing.
-use Prim.Native.Nat.{_-_, _≤_, _<_}
+use Prim.Native.Nat.{_+_, _-_, _≤_, _<_}
 use native.Mathlib.Omega.{arith}
-use mathlib.Core.Path.{_≡_}
-use lib.ListN.{length, length-drop}
+use Prim.Native.Nat.{ℕ}
+use Prim.{tt}
+use mathlib.Core.Path.{_≡_, sym, ap, _∙_}
+use mathlib.Core.List.{List, _++_}
+use lib.ListN.{length, take, drop, length-drop}
 use borrow.Author.Needs.{needs}
+use mathlib.Core.Logic.{inl, inr}
+use Rattle.ect_log.specs.Playing.{frontLength, GoesOn}
+use Rattle.octets.proofs.Places.{rest}
+use Rattle.ect_log.proofs.PlayingLaws.{Later, front-none, part-of, turns-on, turns-last, plays-end, pauses-end}
 use Rattle.ect_log.proofs.playing.play.Statement.{statement}
 use Rattle.ect_log.proofs.playing.play.Tie as tie
 
 abbrev Inv-loop : tie.InvT-loop
-Inv-loop before piece is-last out₀ board₀ number₀ read₀ text₀ out board number read text = (read ≤ length piece) × (text ≤ length out₀) × (length out ≡ length out₀)
+Inv-loop before piece is-last out₀ board₀ number₀ read₀ text₀ out board number read text = (read ≤ length piece) × (text ≤ length out₀) × (length out ≡ length out₀) × ((later : List ℕ) → Later is-last later → GoesOn board₀ number₀ (piece ++ later) board number (drop read piece ++ later) (take text out))
 
 abbrev μ-loop : tie.MeasureT-loop
 μ-loop before piece is-last out₀ board₀ number₀ read₀ text₀ out board number read text = length piece - read
@@ -18,7 +25,7 @@ room : (c : tie.At-loop Inv-loop μ-loop) → length (c .loop .out) < 1844674407
 room c = omega arith
 
 loop-holds : tie.Need-loop-holds Inv-loop μ-loop
-loop-holds c = search needs
+loop-holds c = (search needs, search needs, search needs, λ later z text d k r. r)
 
 sub-if1 : tie.Need-sub-if1 Inv-loop μ-loop
 sub-if1 c = search needs
@@ -27,7 +34,9 @@ same-length : tie.Need-same-length Inv-loop μ-loop
 same-length c = search needs
 
 returns : tie.Need-returns Inv-loop μ-loop
-returns c = search needs
+returns c =
+    let i = c .before .before .loop .inv in
+    record { read = i .0; written = i .1; pauses = omega (arith, c .if1 .taken, i .1, i .2); plays = i .3 }
 
 sub-front-length : tie.Need-sub-front-length Inv-loop μ-loop
 sub-front-length c = search needs
@@ -45,13 +54,25 @@ same-length-2 : tie.Need-same-length-2 Inv-loop μ-loop
 same-length-2 c = search needs
 
 returns-2 : tie.Need-returns-2 Inv-loop μ-loop
-returns-2 c = search needs
+returns-2 c =
+    let i = c .before .before .before .before .before .loop .inv in
+    let r = c .before .before .before .before .before .loop .read in
+    let v = c .before .before .before .before .before .before .before .before .args in
+    let f = c .before .front-length in
+    record {
+      read = i .0;
+      written = i .1;
+      pauses =
+          front-none (v .is-last) (drop r (v .piece .now)) (omega (arith, c .before .before .before .before .loop-test .taken, length-drop r (v .piece .now)))
+          (sym (f .ensures .0 ∙ ap (frontLength (v .is-last)) (rest r (v .piece .now))) ∙ c .if2 .taken);
+      plays = i .3;
+    }
 
 same-length-3 : tie.Need-same-length-3 Inv-loop μ-loop
 same-length-3 c = search needs
 
 returns-3 : tie.Need-returns-3 Inv-loop μ-loop
-returns-3 c = search needs
+returns-3 c = let i = c .before .before .before .before .before .before .loop .inv in record { read = i .0; written = i .1; pauses = tt; plays = λ later z. inr (c .if3 .taken) }
 
 add-number : tie.Need-add-number Inv-loop μ-loop
 add-number c = search needs
@@ -97,17 +118,62 @@ stops-requires c κs = search needs
 same-length-4 : tie.Need-same-length-4 Inv-loop μ-loop
 same-length-4 c = search needs
 
+-- ---- a turn's record and the part of the text's buffer that its line is written to
+
+abbrev Turn : Type 0
+Turn = tie.After-stops Inv-loop μ-loop
+
+is-front : (c : Turn) → c .before .before .before .before .before .before .before .before .before .before .front-length .result ≡ frontLength (c .before .before .before .before .before .before .before .before .before .before .before .before .before .before .before .before .before .args .is-last) (drop (c .before .before .before .before .before .before .before .before .before .before .before .before .before .before .loop .read) (c .before .before .before .before .before .before .before .before .before .before .before .before .before .before .before .before .before .args .piece .now))
+is-front c = c .before .before .before .before .before .before .before .before .before .before .front-length .ensures .0 ∙ ap (frontLength (c .before .before .before .before .before .before .before .before .before .before .before .before .before .before .before .before .before .args .is-last)) (rest (c .before .before .before .before .before .before .before .before .before .before .before .before .before .before .loop .read) (c .before .before .before .before .before .before .before .before .before .before .before .before .before .before .before .before .before .args .piece .now))
+
+more : (c : Turn) → c .before .before .before .before .before .before .before .before .before .before .before .before .before .before .loop .read < length (c .before .before .before .before .before .before .before .before .before .before .before .before .before .before .before .before .before .args .piece .now)
+more c = c .before .before .before .before .before .before .before .before .before .before .before .before .before .loop-test .taken
+
+some : (c : Turn) → 0 < c .before .before .before .before .before .before .before .before .before .before .front-length .result
+some c = omega (arith, c .before .before .before .before .before .before .before .before .before .if2 .left)
+
+behind-text : (c : Turn) → c .before .before .before .before .before .before .before .before .before .before .before .before .before .before .loop .text ≤ length (c .before .before .before .before .before .before .before .before .before .before .before .before .before .before .loop .out)
+behind-text c = omega (arith, c .before .before .before .before .before .before .before .before .before .before .before .before .before .before .loop .inv .1, c .before .before .before .before .before .before .before .before .before .before .before .before .before .before .loop .inv .2)
+
+within : (c : Turn) → c .before .before .before .before .before .before .before .before .before .before .before .before .before .before .loop .read + c .before .before .before .before .before .before .before .before .before .before .front-length .result ≤ length (c .before .before .before .before .before .before .before .before .before .before .before .before .before .before .before .before .before .args .piece .now)
+within c =
+    let p = c .before .before .before .before .before .before .before .before .before .before .before .before .before .before .before .before .before .args .piece .now in
+    let r = c .before .before .before .before .before .before .before .before .before .before .before .before .before .before .loop .read in
+    let q : c .before .before .before .before .before .before .before .before .before .before .front-length .result ≤ length (take (length p - r) (drop r p)) = c .before .before .before .before .before .before .before .before .before .before .front-length .ensures .1 in
+    omega (arith, q, ap length (rest r p), length-drop r p)
+
+room-left : (c : Turn) → 512 ≤ length (take (length (c .before .before .before .before .before .before .before .before .before .before .before .before .before .before .loop .out) - c .before .before .before .before .before .before .before .before .before .before .before .before .before .before .loop .text) (drop (c .before .before .before .before .before .before .before .before .before .before .before .before .before .before .loop .text) (c .before .before .before .before .before .before .before .before .before .before .before .before .before .before .loop .out)))
+room-left c =
+    let at = c .before .before .before .before .before .before .before .before .before .before .before .before .before .before .loop in
+    omega (arith, ap length (rest (at .text) (at .out)), length-drop (at .text) (at .out))
+
 returns-4 : tie.Need-returns-4 Inv-loop μ-loop
-returns-4 c = search needs
+returns-4 c =
+    let v = c .before .before .before .before .before .before .before .before .before .before .before .before .before .before .before .before .before .before .args in
+    let at = c .before .before .before .before .before .before .before .before .before .before .before .before .before .before .before .loop in
+    let f = c .before .before .before .before .before .before .before .before .before .before .before .front-length in
+    let t = c .before .before .before .before .before .before .tell in
+    let w = t .ensures .1 .line .within in
+    let l = length-drop (at .text) (at .out) in
+    record {
+      read = within (c .before);
+      written = search needs;
+      pauses = tt;
+      plays = λ later z. inl (turns-last (v .piece .now ++ later) later (v .piece .now) (at .out) (take (length (at .out) - at .text) (drop (at .text) (at .out))) _ _ (take (at .read + f .result - at .read) (drop (at .read) (v .piece .now))) (v .is-last) (at .read) (at .text) (f .result) (t .ensures .0) (t .result) _ (more (c .before)) (behind-text (c .before)) (room-left (c .before)) (is-front (c .before)) (some (c .before)) (part-of (at .read) (f .result) (v .piece .now)) (t .ensures .1) z (at .inv .3 later z) (c .before .stops .ensures) (c .if4 .taken));
+    }
 
 loop-less : tie.Need-loop-less Inv-loop μ-loop
 loop-less c = search needs
 
 loop-again : tie.Need-loop-again Inv-loop μ-loop
 loop-again c =
-    let w = c .before .before .before .before .before .before .tell .ensures .1 .line .within in
-    let l = length-drop (c .before .before .before .before .before .before .before .before .before .before .before .before .before .before .before .loop .text) (c .before .before .before .before .before .before .before .before .before .before .before .before .before .before .before .loop .out) in
-    (search needs, search needs, search needs)
+    let v = c .before .before .before .before .before .before .before .before .before .before .before .before .before .before .before .before .before .before .args in
+    let at = c .before .before .before .before .before .before .before .before .before .before .before .before .before .before .before .loop in
+    let f = c .before .before .before .before .before .before .before .before .before .before .before .front-length in
+    let t = c .before .before .before .before .before .before .tell in
+    let w = t .ensures .1 .line .within in
+    let l = length-drop (at .text) (at .out) in
+    (within (c .before), search needs, search needs, λ later z. turns-on (v .piece .now ++ later) later (v .piece .now) (at .out) (take (length (at .out) - at .text) (drop (at .text) (at .out))) _ _ (take (at .read + f .result - at .read) (drop (at .read) (v .piece .now))) (v .is-last) (at .read) (at .text) (f .result) (t .ensures .0) (t .result) _ (more (c .before)) (behind-text (c .before)) (room-left (c .before)) (is-front (c .before)) (some (c .before)) (part-of (at .read) (f .result) (v .piece .now)) (t .ensures .1) z (at .inv .3 later z) (c .before .stops .ensures) (c .if4 .left))
 
 at-end-requires : tie.Need-at-end-requires Inv-loop μ-loop
 at-end-requires c κs = search needs
@@ -116,7 +182,16 @@ same-length-5 : tie.Need-same-length-5 Inv-loop μ-loop
 same-length-5 c = search needs
 
 returns-5 : tie.Need-returns-5 Inv-loop μ-loop
-returns-5 c = search needs
+returns-5 c =
+    let v = c .before .before .before .before .before .args in
+    let at = c .before .before .loop in
+    let i = at .inv in
+    record {
+      read = i .0;
+      written = i .1;
+      pauses = rw (c .at-end .ensures) (pauses-end (v .is-last) (v .piece .now) (at .read) (length (v .out .now)) (at .text) (omega arith));
+      plays = λ later z. rw (c .at-end .ensures) (plays-end (v .piece .now ++ later) later (v .piece .now) (take (at .text) (at .out)) (v .is-last) (at .read) (omega arith) z (i .3 later z));
+    }
 
 pub play-spec : {M : Type 1} → statement M
 play-spec =

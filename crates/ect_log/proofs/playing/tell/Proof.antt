@@ -3,7 +3,7 @@ use mathlib.Core.Path.{_≡_, sym}
 use lib.ListN.{length}
 use lib.Seq.{length-take-le}
 use borrow.Author.Needs.{needs}
-use Rattle.ect_log.proofs.PlayingLaws.{count-within, told}
+use Rattle.ect_log.proofs.PlayingLaws.{count-within, told, outcome-short}
 use Rattle.ect_log.proofs.playing.tell.Statement.{statement}
 use Rattle.ect_log.proofs.playing.tell.Tie as tie
 
@@ -23,8 +23,8 @@ returned-requires c κs = search needs
 written-requires : tie.Need-written-requires
 written-requires c κs = search needs
 
-shared-slice-read-record-line : tie.Need-shared-slice-read-record-line
-shared-slice-read-record-line c = search needs
+kind-of-requires : tie.Need-kind-of-requires
+kind-of-requires c κs = search needs
 
 array-share-prefix-reply : tie.Need-array-share-prefix-reply
 array-share-prefix-reply c = rw (c .before .written .ensures) (count-within (c .before .before .before .before .step .ensures .1) (long (c .before .before .before .before)))
@@ -39,11 +39,15 @@ same-length : tie.Need-same-length
 same-length c = search needs
 
 returns : tie.Need-returns
-returns c = (
-  c .before .before .before .before .before .before .before .before .before .before .step .ensures .0,
-  told (c .before .before .before .before .before .before .before .before .before .before .step .ensures .1) (c .before .before .before .before .before .before .before .before .returned .ensures)
-      (c .before .before .before .before .before .before .before .written .ensures) (c .before .before .before .record-line .ensures),
-)
+returns c =
+    let v = c .before .before .before .before .before .before .before .before .before .before .before .before .before .before .args in
+    let s = c .before .before .before .before .before .before .before .before .before .before .step .ensures in
+    let r = c .before .before .before .before .before .before .before .before .returned in
+    let k = c .before .before .before .before .before .before .kind-of in (
+      s .0,
+      told (s .1) (r .ensures) (c .before .before .before .before .before .before .before .written .ensures) (rw (k .ensures) at (c .before .before .before .record-line .ensures))
+          (outcome-short (s .0) (v .board) (v .number) (v .event .now) (search needs) (rw (sym (k .ensures)) (search needs)) (rw (sym (s .1 .answer), sym (r .ensures)) (search needs))),
+    )
 
 pub tell-spec : {M : Type 1} → statement M
 tell-spec =
@@ -53,7 +57,7 @@ tell-spec =
     step-requires
     returned-requires
     written-requires
-    shared-slice-read-record-line
+    kind-of-requires
     array-share-prefix-reply
     slice-aggregate-record-line
     record-line-requires
