@@ -1,7 +1,9 @@
 -- Laws of the walks through lent rows.
+pub mod Carried
+pub mod Types
+pub mod Calls
 pub mod Walks
+pub mod Folds
 pub mod Lending
-pub mod Seeing
-pub mod Meetings
 pub mod Summing
 pub mod Agreement

@@ -1,6 +1,5 @@
 -- The counts of rows by a walk that tests each row and adds up.
-use Prim.Native.Nat.{ℕ, _+_, _≤_, _<_, zero-le}
-use native.Mathlib.Numerals.{add-one-le}
+use Prim.Native.Nat.{ℕ, _+_, _≤_, _<_}
 use mathlib.Core.Path.{_≡_, refl, sym, ap, subst⁻¹, _∙_}
 use mathlib.Core.Bool.{Bool, true, false, _&&_, not, cond, and-true}
 use mathlib.Core.List.{List}
@@ -30,7 +29,6 @@ obeying rows zs = all fits zs && (distinct clash zs && all (λ (a : Row). any (p
 
 -- before place i the walk has these sums
 pub record Summing (ys : List Row) (i : ℕ) (s : Sums) : Type 0 where
-  pub within : i ≤ length ys
   pub rules : (s .sound && obeying ys (drop i ys)) ≡ obeying ys ys
   pub taken-rows : Counting takenRow ys i (s .legs)
   pub joined-rows : Counting joinedRow ys i (s .joined)
@@ -56,12 +54,11 @@ fewest-first false b false c = refl
 
 module _ (ys : List Row) where
   pub summing-start : Summing ys 0 (record { sound = true; legs = 0; joined = 0; links = 0 })
-  summing-start = record { within = zero-le; rules = refl; taken-rows = count-start _ _; joined-rows = count-start _ _; linked-rows = count-start _ _ }
+  summing-start = record { rules = refl; taken-rows = count-start _ _; joined-rows = count-start _ _; linked-rows = count-start _ _ }
 
   pub summing-step : (i : ℕ) (s r : Sums) (m : Met) → i < length ys → m ≡ among (record { row = getD ys i emptyRow; place = i }) ys → r ≡ added s (record { row = getD ys i emptyRow; place = i }) m →
       Summing ys i s → Summing ys (i + 1) r
   summing-step i s r m l em e t = subst⁻¹ (Summing ys (i + 1)) (e ∙ ap (added s p) em) (record {
-    within = add-one-le l;
     rules = regroup (s .sound) (fits x) (not (any (clash x) (drop (i + 1) ys))) (any (paired x) ys) (all fits zs) (distinct clash zs) (all (λ (a : Row). any (paired a) ys) zs) ∙ ap (λ (l : List Row). s .sound && obeying ys l) (sym (at .split)) ∙ t .rules;
     taken-rows = count-step at _ refl (t .taken-rows);
     joined-rows = count-step at _ refl (t .joined-rows);
