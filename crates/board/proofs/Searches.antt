@@ -1,20 +1,22 @@
 -- The row that a search finds, against the definitions: the entry or the party that they look up is that of the row found, and the lowest empty
 -- row is the one that Open stores to.
-use Prim.Native.Nat.{ℕ, zero, suc, zero-le, suc-le-suc}
+use Prim.Native.Nat.{ℕ, zero, suc, _+_, _≤_, _<_, zero-le, suc-le-suc}
 use native.Mathlib.Nat.{le-of-suc-le-suc, not-suc-le-zero}
+use native.Mathlib.Numerals.{add-one}
 use native.Mathlib.Omega.{arith}
-use mathlib.Core.Path.{_≡_, refl, sym, ap, _∙_}
+use mathlib.Core.Path.{_≡_, refl, sym, ap, ap₂, _∙_}
 use mathlib.Core.Bool.{Bool, true, false, _&&_, _||_, not}
 use mathlib.Core.List.{List, [], _∷_}
-use mathlib.Core.Option.{Option, none, some}
+use mathlib.Core.Option.{Option, none, some, Option·map}
 use lib.Dec.{eqb}
 use lib.IntN.{ℤ}
-use lib.ListN.{getD, set}
+use lib.ListN.{length, getD, set, take, drop, drop-of-length-le}
+use lib.Seq.{drop-cons, take-all}
 use Rattle.octets.specs.declared.CallReference.{CallReference}
 use Rattle.octets.specs.declared.LinkId.{LinkId}
-use Rattle.octets.specs.Lists.{any, find, pick, placeFrom}
+use Rattle.octets.specs.Lists.{any, find, pick, placeFrom, orElse}
 use Rattle.octets.proofs.Lists.{testOpt, is-not, any-ext}
-use Rattle.octets.proofs.Places.{Lowest, place-lowest, place-none, place-some, none-place, place-ext, pickAt, pickOpt, find-pick, any-pick, pick-pick}
+use Rattle.octets.proofs.Places.{told, Lowest, place-cons, place-lowest, place-none, place-some, none-place, place-ext, pickAt, pickOpt, find-pick, any-pick, pick-pick}
 use Rattle.board.specs.declared.Standing.{Standing}
 use Rattle.board.specs.declared.Standing.the-variants.{Empty, Served, Joined}
 use Rattle.board.specs.declared.Row.{Row}
@@ -36,6 +38,59 @@ found-at (some j) i e = let k : j ≡ i = cc in ap {B = Option ℕ} some k
 pub found-nothing : (o : Option ℕ) → foundAt o ≡ Nothing → o ≡ none
 found-nothing none e = refl
 found-nothing (some j) e = let z : _≡_ {A = ℕ} 0 1 = cc in absurd (omega arith)
+
+-- a loop that looks for the first element: from its test of element i to the search of what is left
+module _ {A : Type 0} (p : A → Bool) (l : List A) (i : ℕ) where
+  module _ (d : A) (r : Bool) (h : i < length l) (e : r ≡ p (getD l i d)) where
+    pub first-yes : r ≡ true → some (getD l i d) ≡ find p (drop i l)
+    first-yes t = rw (drop-cons l i d h, told e t)
+
+    pub first-no : r ≡ false → find p (drop (i + 1) l) ≡ find p (drop i l)
+    first-no t = rw (drop-cons l i d h, told e t, add-one)
+
+  pub first-end : length l ≤ i → none ≡ find p (drop i l)
+  first-end h = rw (drop-of-length-le l h)
+
+-- a loop that asks whether some element passes: those before i, and then element i
+module _ {A : Type 0} (p : A → Bool) where
+  any-next : (l : List A) (i : ℕ) (d : A) → i < length l → (any p (take i l) || p (getD l i d)) ≡ any p (take (suc i) l)
+  any-next [] i d h = absurd (not-suc-le-zero h)
+  any-next (x ∷ l) zero d h = go (p x)
+    where
+      go : (b : Bool) → b ≡ (b || false)
+      go true = refl
+      go false = refl
+  any-next (x ∷ l) (suc i) d h = go (p x) (any-next l i d (le-of-suc-le-suc h))
+    where
+      go : (b : Bool) → (any p (take i l) || p (getD l i d)) ≡ any p (take (suc i) l) → ((b || any p (take i l)) || p (getD l i d)) ≡ (b || any p (take (suc i) l))
+      go true e = refl
+      go false e = e
+
+  pub any-more : (l : List A) (i : ℕ) (d : A) {b r : Bool} → i < length l → b ≡ any p (take i l) → r ≡ p (getD l i d) → (b || r) ≡ any p (take (i + 1) l)
+  any-more l i d h e f = ap₂ (λ (x y : Bool). x || y) e f ∙ any-next l i d h ∙ ap (λ (n : ℕ). any p (take n l)) (sym (add-one i))
+
+  pub any-end : (l : List A) (i : ℕ) {b : Bool} → length l ≤ i → b ≡ any p (take i l) → b ≡ any p l
+  any-end l i h e = e ∙ ap (any p) (take-all i l h)
+
+-- the element at a place, if there is one
+module _ {A : Type 0} (d : A) where
+  abbrev pub elementAt : List A → Option ℕ → Option A
+  elementAt l none = none
+  elementAt l (some i) = some (getD l i d)
+
+  element-later : (x : A) (l : List A) (o : Option ℕ) → elementAt l o ≡ elementAt (x ∷ l) (Option·map suc o)
+  element-later x l none = refl
+  element-later x l (some i) = refl
+
+  -- what is found is the element at the lowest place
+  pub find-at : (p : A → Bool) (l : List A) → find p l ≡ elementAt l (placeFrom p 0 l)
+  unfolding placeFrom
+  find-at p [] = refl
+  find-at p (x ∷ l) = go (p x) (find-at p l) ∙ sym (ap (elementAt (x ∷ l)) (place-cons p x l))
+    where
+      go : (b : Bool) → find p l ≡ elementAt l (placeFrom p 0 l) → orElse b x (find p l) ≡ elementAt (x ∷ l) (orElse b 0 (Option·map suc (placeFrom p 0 l)))
+      go true h = refl
+      go false h = h ∙ element-later x l (placeFrom p 0 l)
 
 -- the row found by a key lies within the rows and has the key, and no earlier row has it
 pub key-lowest : (k : Key) (rows : List Row) (d : Row) (i : ℕ) → foundAt (placeFrom (matchesKey k) 0 rows) ≡ At i → Lowest (matchesKey k) d rows i
@@ -197,13 +252,7 @@ enter-full new (x ∷ rows) e = go (occupied (x .standing)) e (enter-full new ro
     go true q f = ap (λ (r : List Row). x ∷ r) (f q)
     go false q f = let z : _≡_ {A = ℕ} 0 1 = cc in absurd (omega arith)
 
--- ---- no row is empty exactly where the search for one finds none
+-- ---- where no row is empty, the search for one finds none
 
 pub full-nowhere : (rows : List Row) → full rows ≡ true → placeFrom (matchesKey key.Empty) 0 rows ≡ none
 full-nowhere rows e = none-place isEmpty rows (is-not e)
-
-pub nowhere-full : (rows : List Row) → placeFrom (matchesKey key.Empty) 0 rows ≡ none → full rows ≡ true
-nowhere-full rows e = ap not (place-none isEmpty rows e)
-
-pub somewhere-not-full : (rows : List Row) (i : ℕ) → placeFrom (matchesKey key.Empty) 0 rows ≡ some i → full rows ≡ false
-somewhere-not-full rows i e = ap not (place-some isEmpty rows i e)

@@ -2,8 +2,11 @@
 -- leg and a call by its LinkId, and Open takes an empty row.
 use Prim.Native.Nat.{ℕ}
 use mathlib.Core.Bool.{Bool, _&&_, not}
+use mathlib.Core.List.{List}
 use lib.Dec.{eqb}
 use lib.IntN.{ℤ}
+use Rattle.octets.specs.Lists.{any}
+use Rattle.octets.specs.declared.CallReference.{CallReference}
 use Rattle.octets.specs.declared.LinkId.{LinkId}
 use Rattle.board.specs.declared.OptionalLinkId.{OptionalLinkId}
 use Rattle.board.specs.declared.OptionalLinkId.the-variants.{Absent}
@@ -11,6 +14,7 @@ use Rattle.board.specs.declared.Standing.{Standing}
 use Rattle.board.specs.declared.Standing.the-variants.{Empty, Served, Joined}
 use Rattle.board.specs.declared.Row.{Row}
 use Rattle.board.specs.declared.finding.Key.{Key}
+use Rattle.board.specs.declared.finding.Survey.{Survey}
 use Rattle.board.specs.declared.finding.Key.the-variants as key
 use Rattle.board.specs.Entries.{occupied, linkIdIn, isLinkId}
 use Rattle.board.specs.Lookup.{hasCallOf}
@@ -37,3 +41,8 @@ matchesKey (key.Reference r) row = hasCallOf (r .0) row
 matchesKey (key.Leg n) row = hasRowLeg n row
 matchesKey (key.LinkId l) row = hasRowLinkId (l .0) row
 matchesKey key.Empty row = isEmpty row
+
+-- "6: leg on the board", "7: reference in use", "8: no empty row": what an Open asks of the rows
+abbrev pub surveyOf : ℕ → CallReference → List Row → Survey
+surveyOf n r rows =
+    record { leg = any (matchesKey (key.Leg n)) rows; reference = any (matchesKey (key.Reference r)) rows; empty = any (matchesKey key.Empty) rows }

@@ -11,6 +11,7 @@ use Rattle.board.specs.declared.Standing.the-variants.{Empty, Served, Jo
 use Rattle.board.specs.declared.Row.{Row}
 use Rattle.board.specs.declared.Found.{Found}
 use Rattle.board.specs.declared.Found.the-variants.{At, Nothing}
+use Rattle.board.specs.Making.{emptyRow}
 
 -- "a call of that reference"
 abbrev pub isCallOf : ℕ → Standing → Bool
@@ -24,6 +25,11 @@ hasCallOf r row = isCallOf r (row .standing)
 abbrev pub foundAt : Option ℕ → Found
 foundAt none = Nothing
 foundAt (some i) = At i
+
+-- the row found, or an empty one
+abbrev pub foundRow : Option Row → Row
+foundRow none = emptyRow
+foundRow (some r) = r
 
 -- "the lowest place, counted from 0, with a call of that reference"
 unfoldable pub lookup : ℕ → List Row → Found

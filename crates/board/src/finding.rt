@@ -1,15 +1,16 @@
-// Finding a row of the board: one loop for every key that the rules look a row up by.
+// Finding rows of the board, by every key that the rules look a row up by.
 ghost use mathlib.Core.Path.{_≡_};
-ghost use Rattle.octets.specs.Lists.{placeFrom};
+ghost use Rattle.octets.specs.Lists.{placeFrom, find as findIn};
 ghost use Rattle.board.specs.Entries.{occupied, linkIdIn, isLinkId};
-ghost use Rattle.board.specs.Lookup.{isCallOf, foundAt, lookup as lookupRows};
-ghost use Rattle.board.specs.Keys.{linkOf, matchesKey};
+ghost use Rattle.board.specs.Lookup.{isCallOf, foundAt, foundRow, lookup as lookupRows};
+ghost use Rattle.board.specs.Keys.{linkOf, matchesKey, surveyOf};
 ghost use Rattle.board.specs.LinkIds.{liveLinkIds, freeLinkId, optionalLinkId};
 use crate::Board;
 use crate::Found;
 use crate::OptionalLinkId;
 use crate::Row;
 use crate::Standing;
+use crate::empty_row;
 use octets::CallReference;
 use octets::LinkId;
 
@@ -19,6 +20,13 @@ pub enum Key {
     Leg(u32),
     LinkId(LinkId),
     Empty,
+}
+
+// Whether a row has the leg, whether a call has the reference, and whether a row is empty.
+pub struct Survey {
+    pub leg: bool,
+    pub reference: bool,
+    pub empty: bool,
 }
 
 fn is_occupied(standing: Standing) -> bool
@@ -86,6 +94,39 @@ pub fn find(board: Board, key: Key) -> Found
         }
     }
     Found::Nothing
+}
+
+// The lowest row that has the key, or an empty row where none has it.
+pub fn find_row(board: Board, key: Key) -> Row
+    ensures { λ r. ⌜ r ≡ foundRow (findIn (matchesKey key) (board .rows)) ⌝ }
+{
+    for k in 0..64 {
+        let row = board.rows[k];
+        if matches(row, key) {
+            return row;
+        }
+    }
+    empty_row()
+}
+
+// All that an Open asks of the rows, in one pass over them.
+pub fn look_over(board: Board, leg: u32, reference: CallReference) -> Survey
+    ensures { λ r. ⌜ r ≡ surveyOf leg reference (board .rows) ⌝ }
+{
+    let mut has_leg = false;
+    let mut has_reference = false;
+    let mut has_empty = false;
+    for k in 0..64 {
+        let row = board.rows[k];
+        has_leg = has_leg | matches(row, Key::Leg(leg));
+        has_reference = has_reference | matches(row, Key::Reference(reference));
+        has_empty = has_empty | matches(row, Key::Empty);
+    }
+    Survey {
+        leg: has_leg,
+        reference: has_reference,
+        empty: has_empty,
+    }
 }
 
 // The lowest place, counted from 0, with a call of that reference.

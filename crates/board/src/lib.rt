@@ -143,7 +143,7 @@ pub enum Counted {
     Unsound,
 }
 
-fn empty_row() -> Row
+pub fn empty_row() -> Row
     ensures { λ r. ⌜ r ≡ emptyRow ⌝ }
 {
     Row {

@@ -1,30 +1,26 @@
 -- The outcome of the rules by the tests that lead to it, and what the code shows of it.
 use borrow.Author.Tests.{lt-ltb, le-ltb}
 use Prim.Native.Nat.{_<_, _≤_, ℕ}
-use native.Mathlib.Omega.{arith}
-use mathlib.Core.Path.{_∙_, ap, refl, subst⁻¹, sym, _≡_}
+use mathlib.Core.Path.{_∙_, ap, refl, subst⁻¹, _≡_}
 use mathlib.Core.Bool.{Bool, cond, false, true}
 use mathlib.Core.List.{_++_, List}
 use lib.ListN.{length, drop}
 use Rattle.board.specs.Soundness.{sound}
 use Rattle.board.specs.declared.Board.{Board}
 use Rattle.ect.proofs.ReplyLaws.{copied}
-use Rattle.ect.specs.Contract.{Shows, Steps}
-use Rattle.ect.specs.Effects.{Carries, verdictOf}
+use Rattle.ect.specs.Contract.{Shows, Steps, answerNumber, answerCount}
+use Rattle.ect.specs.Effects.{Carries, verdictOf, answerTo, boardBy}
 use Rattle.ect.specs.ReplyValues.{written}
 use Rattle.ect.specs.declared.StepAnswer.{StepAnswer}
-use Rattle.ect.specs.declared.StepAnswer.the-variants.{Refused, Accepted}
+use Rattle.ect.specs.declared.StepAnswer.the-variants.{Refused}
 use Rattle.ect.specs.declared.Stepped.{Stepped}
 use Rattle.events.specs.declared.Refusal.{Refusal}
-use Rattle.events.specs.declared.Refusal.the-variants.{BufferTooSmall, UnsoundBoard}
 use Rattle.rules.specs.Checks.{refusalNumber, Refuse, Decision, OpenLeg, SetState, SetAuxiliary, ReleaseLeg, ServeCall, EndAlerting, returnedBy}
-use Rattle.rules.specs.Pairing.{verdict}
 use Rattle.rules.specs.Replies.{DropOrder, octets, NamedFirst}
 use Rattle.rules.specs.Step.{replies, step, refused, Outcome, done, decision}
 use Rattle.events.specs.declared.Refusal.the-variants as refusal
-use Rattle.ect.specs.declared.effects.Verdict.the-variants as verdict
+use Rattle.ect.specs.declared.effects.Verdict.{Verdict}
 use Rattle.ect.specs.declared.effects.Effect.{Effect}
-use Rattle.ect.specs.declared.replies.Out.{Out}
 
 -- ---- the outcome
 
@@ -64,33 +60,36 @@ module _ (b : Board) (os before : List ℕ) where
     pub not-sound : sound b ≡ false → Steps b os before (stepped (Refused refusal.UnsoundBoard) b) before
     not-sound s = (NamedFirst, shows-is (is-unsound NamedFirst b os (length before) h s) (shows-refused refusal.UnsoundBoard b before))
 
-    module _ (s : sound b ≡ true) (e : Effect) (k : Carries e b (decision b os)) where
-      refuses-by : (d : Decision) {c : Refusal} → verdictOf d ≡ verdict.Refused c → Carries e b d → Shows (done NamedFirst b d) before (stepped (Refused c) (e .board)) before
-      unfolding octets replies
-      refuses-by (Refuse r) {c} v q = let w : r ≡ c = cc in record { answer = ap refusalNumber (sym w); count = refl; board = q .board; buffer = refl }
-      refuses-by (OpenLeg l c p n ds) v q = let z : _≡_ {A = ℕ} 0 1 = cc in absurd (omega arith)
-      refuses-by (SetState r t) v q = let z : _≡_ {A = ℕ} 0 1 = cc in absurd (omega arith)
-      refuses-by (SetAuxiliary r a) v q = let z : _≡_ {A = ℕ} 0 1 = cc in absurd (omega arith)
-      refuses-by (ReleaseLeg x) v q = let z : _≡_ {A = ℕ} 0 1 = cc in absurd (omega arith)
-      refuses-by (ServeCall p t) v q = let z : _≡_ {A = ℕ} 0 1 = cc in absurd (omega arith)
-      refuses-by (EndAlerting l p) v q = let z : _≡_ {A = ℕ} 0 1 = cc in absurd (omega arith)
+    answer-by : (d : Decision) (n : ℕ) → answerNumber (answerTo (verdictOf d) n) ≡ returnedBy d
+    answer-by (Refuse r) n = refl
+    answer-by (OpenLeg l c p m ds) n = refl
+    answer-by (SetState r t) n = refl
+    answer-by (SetAuxiliary r a) n = refl
+    answer-by (ReleaseLeg x) n = refl
+    answer-by (ServeCall p t) n = refl
+    answer-by (EndAlerting l p) n = refl
 
-      returned-0 : (d : Decision) → verdictOf d ≡ verdict.Accepted → 0 ≡ returnedBy d
-      returned-0 (Refuse r) v = let z : _≡_ {A = ℕ} 0 1 = cc in absurd (omega arith)
-      returned-0 (OpenLeg l c p n ds) v = refl
-      returned-0 (SetState r t) v = refl
-      returned-0 (SetAuxiliary r a) v = refl
-      returned-0 (ReleaseLeg x) v = refl
-      returned-0 (ServeCall p t) v = refl
-      returned-0 (EndAlerting l p) v = refl
+    count-by : (d : Decision) (n : ℕ) → n ≡ length (octets (replies NamedFirst (b .rows) d)) → answerCount (answerTo (verdictOf d) n) ≡ length (octets (replies NamedFirst (b .rows) d))
+    unfolding octets replies
+    count-by (Refuse r) n h = refl
+    count-by (OpenLeg l c p m ds) n h = h
+    count-by (SetState r t) n h = h
+    count-by (SetAuxiliary r a) n h = h
+    count-by (ReleaseLeg x) n h = h
+    count-by (ServeCall p t) n h = h
+    count-by (EndAlerting l p) n h = h
 
-      pub step-refuses : {c : Refusal} → e .verdict ≡ verdict.Refused c → Steps b os before (stepped (Refused c) (e .board)) before
-      step-refuses v = (NamedFirst, shows-is (decides NamedFirst b os (length before) h s) (refuses-by (decision b os) (sym (k .verdict) ∙ v) k))
-
-      pub step-accepts : {n : ℕ} {after : List ℕ} → e .verdict ≡ verdict.Accepted → n ≡ e .out .len → after ≡ written (e .out) ++ drop (e .out .len) before →
-          Steps b os before (stepped (Accepted n) (e .board)) after
-      step-accepts v m q = (
-        NamedFirst,
-        shows-is (decides NamedFirst b os (length before) h s)
-            (record { answer = returned-0 (decision b os) (sym (k .verdict) ∙ v); count = m ∙ k .says .long; board = k .board; buffer = copied before (k .says) q }),
-      )
+    pub step-done : sound b ≡ true → {e : Effect} → Carries e b (decision b os) → {n : ℕ} {a : StepAnswer} {b′ : Board} {after : List ℕ} →
+        n ≡ e .out .len → after ≡ written (e .out) ++ drop (e .out .len) before → a ≡ answerTo (e .verdict) n → b′ ≡ boardBy (e .deed) (e .row) b → Steps b os before (stepped a b′) after
+    step-done s k {n} m q v w =
+        let d = decision b os in
+        let u = v ∙ ap (λ (x : Verdict). answerTo x n) (k .verdict) in (
+          NamedFirst,
+          shows-is (decides NamedFirst b os (length before) h s)
+              (record {
+                answer = ap answerNumber u ∙ answer-by d n;
+                count = ap answerCount u ∙ count-by d n (m ∙ k .says .long);
+                board = w ∙ k .board;
+                buffer = copied before (k .says) q;
+              }),
+        )

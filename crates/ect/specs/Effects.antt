@@ -2,19 +2,35 @@
 use Prim.Native.Nat.{ℕ, _≤_}
 use mathlib.Core.Path.{_≡_}
 use mathlib.Core.List.{List}
+use mathlib.Core.Option.{Option, none, some}
 use Rattle.board.specs.declared.Direction.{Direction}
 use Rattle.board.specs.declared.Standing.the-variants.{Served}
 use Rattle.board.specs.declared.Row.{Row}
 use Rattle.board.specs.declared.Board.{Board}
+use Rattle.board.specs.declared.Change.{Change}
+use Rattle.board.specs.declared.Change.the-variants as change
+use Rattle.board.specs.declared.Entry.{Entry}
+use Rattle.board.specs.declared.Party.{Party}
+use Rattle.board.specs.declared.FoundEntry.{FoundEntry}
+use Rattle.board.specs.declared.FoundEntry.the-variants as found-entry
+use Rattle.board.specs.declared.FoundParty.{FoundParty}
+use Rattle.board.specs.declared.FoundParty.the-variants as found-party
+use Rattle.octets.specs.declared.LinkId.{LinkId}
+use Rattle.octets.specs.Numbers.{nextLinkId}
 use Rattle.octets.specs.Lists.{any}
 use Rattle.board.specs.Entries.{hasLeg, hasReference}
-use Rattle.board.specs.Changes.{full}
+use Rattle.board.specs.Changes.{full, enter, changedRows, withRows}
 use Rattle.rules.specs.Replies.{NamedFirst}
 use Rattle.rules.specs.Checks.{Decision, Refuse, OpenLeg, SetState, SetAuxiliary, ReleaseLeg, ServeCall, EndAlerting, opened, named, decideOpen, decideFacility}
 use Rattle.rules.specs.Step.{boardAfter, replies}
+use Rattle.ect.specs.declared.StepAnswer.{StepAnswer}
+use Rattle.ect.specs.declared.StepAnswer.the-variants as step-answer
 use Rattle.ect.specs.declared.effects.Verdict.{Verdict}
 use Rattle.ect.specs.declared.effects.Verdict.the-variants.{Accepted, Refused}
+use Rattle.ect.specs.declared.effects.Deed.{Deed}
+use Rattle.ect.specs.declared.effects.Deed.the-variants.{Stay, Enter, Apply}
 use Rattle.ect.specs.declared.effects.Effect.{Effect}
+use Rattle.ect.specs.declared.replies.Out.{Out}
 use Rattle.serving.specs.Parties.{entriesOf}
 use Rattle.ect.specs.ReplyValues.{Says}
 
@@ -31,12 +47,49 @@ verdictOf (ReleaseLeg e) = Accepted
 verdictOf (ServeCall p s) = Accepted
 verdictOf (EndAlerting l p) = Accepted
 
+-- the answer to an event, with the number of octets written
+abbrev pub answerTo : Verdict → ℕ → StepAnswer
+answerTo Accepted n = step-answer.Accepted n
+answerTo (Refused c) n = step-answer.Refused c
+
+abbrev pub effect : Verdict → Deed → Row → Out → Effect
+effect v d row o = record { verdict = v; deed = d; row = row; out = o }
+
+-- "the candidate becomes the value after"
+abbrev pub candidateBy : LinkId → Change → LinkId
+candidateBy z (change.SetState r s) = z
+candidateBy z (change.SetAuxiliary r a) = z
+candidateBy z (change.SetLinkId r l) = record { 0 = nextLinkId (l .0) }
+candidateBy z (change.Join x y) = z
+candidateBy z (change.EndAlerting l) = z
+candidateBy z (change.Release l) = z
+candidateBy z (change.ReleasePair l p) = z
+
+-- the board that a deed makes of b, with the row that it enters
+abbrev pub boardBy : Deed → Row → Board → Board
+boardBy Stay row b = b
+boardBy Enter row b = withRows (enter row (b .rows)) b
+boardBy (Apply c) row b = record { rows = changedRows c (b .rows); options = b .options; candidate = candidateBy (b .candidate) c }
+
 -- the effect on the board b is that of the decision d
 pub record Carries (r : Effect) (b : Board) (d : Decision) : Type 0 where
   pub verdict : r .verdict ≡ verdictOf d
-  pub board : r .board ≡ boardAfter d b
+  pub board : boardBy (r .deed) (r .row) b ≡ boardAfter d b
   pub says : Says (r .out) (replies NamedFirst (b .rows) d)
   pub room : r .out .len ≤ 92
+
+-- the effect is that of the decision on any board
+abbrev pub Does : Effect → Decision → Type 0
+Does r d = (b : Board) → Carries r b d
+
+-- the party or the entry that a search has found
+abbrev pub partyFound : FoundParty → Option Party
+partyFound (found-party.This p) = some p
+partyFound found-party.Nothing = none
+
+abbrev pub entryFound : FoundEntry → Option Entry
+entryFound (found-entry.This e) = some e
+entryFound found-entry.Nothing = none
 
 -- what an Open and a Facility come to on the board, with the fields of their records
 abbrev pub openOn : Board → ℕ → ℕ → Direction → ℕ → ℕ → List ℕ → Decision

@@ -1,11 +1,10 @@
-// What an event does to a board: whether it is refused, the board afterwards, and the replies.
+// What an event comes to: whether it is refused, what it does to the board, and the replies.
 use crate::digits::digits_of;
 use crate::replies::FarParty;
 use crate::replies::Out;
 use crate::replies::Told;
 use crate::replies::empty;
 use crate::replies::number_of;
-use crate::replies::unknown;
 use board::AuxiliaryState;
 use board::Board;
 use board::Call;
@@ -13,7 +12,6 @@ use board::CallState;
 use board::Change;
 use board::Connection;
 use board::Direction;
-use board::Found;
 use board::FoundEntry;
 use board::FoundParty;
 use board::OptionalLinkId;
@@ -23,8 +21,10 @@ use board::Standing;
 use board::changing::change;
 use board::changing::is_delivered;
 use board::changing::open_row;
+use board::empty_row;
 use board::finding::Key;
-use board::finding::find;
+use board::finding::find_row;
+use board::finding::look_over;
 use component::Answer;
 use events::Refusal;
 use events::records::RequestHead;
@@ -39,30 +39,54 @@ use serving::parties::named;
 use serving::serve;
 ghost use mathlib.Core.Path.{_≡_};
 ghost use Rattle.rules.specs.Replies.{numberAt};
-ghost use Rattle.rules.specs.Checks.{Refuse, ServeCall, firstState, mayProgress, mayHold, entryAt};
+ghost use Rattle.rules.specs.Checks.{Refuse, ServeCall, firstState, mayProgress, mayHold};
 ghost use Rattle.rules.specs.Checks.{decideProgress, decideHold, decideRelease, decideAnswer};
 ghost use Rattle.rules.specs.Step.{decision};
-ghost use Rattle.serving.specs.Parties.{entriesOf, namedOn};
 ghost use Rattle.ect.specs.ReplyValues.{numberTold, Describes};
-ghost use Rattle.ect.specs.Effects.{Carries, openedRow, openOn, facilityOn};
+ghost use Rattle.board.specs.Making.{emptyRow};
+ghost use Rattle.ect.specs.Effects.{Carries, Does, effect, openedRow, openOn, facilityOn};
+ghost use Rattle.ect.specs.Effects.{partyFound, entryFound, candidateBy, boardBy};
 
 pub enum Verdict {
     Accepted,
     Refused(Refusal),
 }
 
+// What is done to the board: nothing, a row entered, or a change to rows that are taken.
+pub enum Deed {
+    Stay,
+    Enter,
+    Apply(Change),
+}
+
+// An effect has no board, so that the board is made once, from the deed. The row is the one to enter: it stands
+// beside the deed, as an enum holds no array, and is empty where none is entered.
 pub struct Effect {
     pub verdict: Verdict,
-    pub board: Board,
+    pub deed: Deed,
+    pub row: Row,
     pub out: Out,
 }
 
-fn refuse(board: Board, refusal: Refusal) -> Effect
-    ensures { λ r. ⌜ Carries r board (Refuse refusal) ⌝ }
+// An accepted event that enters no row.
+fn accept(deed: Deed, out: Out) -> Effect
+    ensures { λ r. ⌜ r ≡ effect Verdict.Accepted deed emptyRow out ⌝ }
+{
+    Effect {
+        verdict: Verdict::Accepted,
+        deed,
+        row: empty_row(),
+        out,
+    }
+}
+
+fn refuse(refusal: Refusal) -> Effect
+    ensures { λ r. ⌜ Does r (Refuse refusal) ⌝ }
 {
     Effect {
         verdict: Verdict::Refused(refusal),
-        board,
+        deed: Deed::Stay,
+        row: empty_row(),
         out: empty(),
     }
 }
@@ -114,18 +138,20 @@ fn open(
 ) -> Effect
     ensures { λ e. ⌜ Carries e board (openOn board (r .0) l d p n digits) ⌝ }
 {
-    let FoundEntry::Nothing = entry_at(board, l) else {
-        return refuse(board, Refusal::LegOnBoard);
-    };
-    let FoundParty::Nothing = named(board, r) else {
-        return refuse(board, Refusal::ReferenceInUse);
-    };
-    let Found::At(_) = find(board, Key::Empty) else {
-        return refuse(board, Refusal::NoEmptyRow);
-    };
+    let survey = look_over(board, l, r);
+    if survey.leg {
+        return refuse(Refusal::LegOnBoard);
+    }
+    if survey.reference {
+        return refuse(Refusal::ReferenceInUse);
+    }
+    if !survey.empty {
+        return refuse(Refusal::NoEmptyRow);
+    }
     Effect {
         verdict: Verdict::Accepted,
-        board: open_row(board, opened_row(r, l, d, p, n, digits)),
+        deed: Deed::Enter,
+        row: opened_row(r, l, d, p, n, digits),
         out: empty(),
     }
 }
@@ -161,22 +187,18 @@ fn may_progress(from: CallState, to: CallState) -> bool
     }
 }
 
-fn progress(board: Board, reference: CallReference, state: CallState) -> Effect
-    ensures { λ r. ⌜ Carries r board (decideProgress (reference .0) state (namedOn board reference)) ⌝ }
+fn progress(found: FoundParty, reference: CallReference, state: CallState) -> Effect
+    ensures { λ r. ⌜ Does r (decideProgress (reference .0) state (partyFound found)) ⌝ }
 {
-    let FoundParty::This(party) = named(board, reference) else {
-        return refuse(board, Refusal::NoSuchCall);
+    let FoundParty::This(party) = found else {
+        return refuse(Refusal::NoSuchCall);
     };
     let call = party.call;
     let from = call.state;
     if may_progress(from, state) {
-        return Effect {
-            verdict: Verdict::Accepted,
-            board: change(board, Change::SetState(reference, state)),
-            out: empty(),
-        };
+        return accept(Deed::Apply(Change::SetState(reference, state)), empty());
     }
-    refuse(board, Refusal::NotPermitted)
+    refuse(Refusal::NotPermitted)
 }
 
 fn may_hold(from: AuxiliaryState, to: AuxiliaryState) -> bool
@@ -210,49 +232,46 @@ fn may_hold(from: AuxiliaryState, to: AuxiliaryState) -> bool
     }
 }
 
-fn hold(board: Board, reference: CallReference, auxiliary: AuxiliaryState) -> Effect
-    ensures { λ r. ⌜ Carries r board (decideHold (reference .0) auxiliary (namedOn board reference)) ⌝ }
+fn hold(found: FoundParty, reference: CallReference, auxiliary: AuxiliaryState) -> Effect
+    ensures { λ r. ⌜ Does r (decideHold (reference .0) auxiliary (partyFound found)) ⌝ }
 {
-    let FoundParty::This(party) = named(board, reference) else {
-        return refuse(board, Refusal::NoSuchCall);
+    let FoundParty::This(party) = found else {
+        return refuse(Refusal::NoSuchCall);
     };
     let call = party.call;
     let state = call.state;
     let from = call.auxiliary;
     if is_holdable(state) & may_hold(from, auxiliary) {
-        return Effect {
-            verdict: Verdict::Accepted,
-            board: change(board, Change::SetAuxiliary(reference, auxiliary)),
-            out: empty(),
-        };
+        return accept(
+            Deed::Apply(Change::SetAuxiliary(reference, auxiliary)),
+            empty(),
+        );
     }
-    refuse(board, Refusal::NotPermitted)
+    refuse(Refusal::NotPermitted)
 }
 
-fn release(board: Board, leg: u32) -> Effect
-    ensures { λ r. ⌜ Carries r board (decideRelease (entryAt leg (entriesOf board))) ⌝ }
+fn release(found: FoundEntry) -> Effect
+    ensures { λ r. ⌜ Does r (decideRelease (entryFound found)) ⌝ }
 {
-    let FoundEntry::This(entry) = entry_at(board, leg) else {
-        return refuse(board, Refusal::NoSuchLeg);
+    let FoundEntry::This(entry) = found else {
+        return refuse(Refusal::NoSuchLeg);
     };
     let connection = entry.connection;
     match connection {
         Connection::WithUser(call) => {
             let reference = call.reference;
-            Effect {
-                verdict: Verdict::Accepted,
-                board: change(board, Change::Release(entry.leg)),
-                out: empty().push_drop(reference),
-            }
+            accept(
+                Deed::Apply(Change::Release(entry.leg)),
+                empty().push_drop(reference),
+            )
         }
         Connection::WithPartner {
             partner,
             alerting: _,
-        } => Effect {
-            verdict: Verdict::Accepted,
-            board: change(board, Change::ReleasePair(entry.leg, partner)),
-            out: empty().push_gone(partner),
-        },
+        } => accept(
+            Deed::Apply(Change::ReleasePair(entry.leg, partner)),
+            empty().push_gone(partner),
+        ),
     }
 }
 
@@ -260,30 +279,27 @@ fn release(board: Board, leg: u32) -> Effect
 fn number_at(board: Board, leg: u32) -> Told
     ensures { λ r. ⌜ numberTold r ≡ numberAt (board .rows) leg ⌝ }
 {
-    let Found::At(i) = find(board, Key::Leg(leg)) else {
-        return unknown();
-    };
-    number_of(board.rows[i])
+    number_of(find_row(board, Key::Leg(leg)))
 }
 
-fn answer(board: Board, leg: u32) -> Effect
-    ensures { λ r. ⌜ Carries r board (decideAnswer leg (entryAt leg (entriesOf board))) ⌝ }
+fn answer(board: Board, found: FoundEntry, leg: u32) -> Effect
+    ensures { λ r. ⌜ Carries r board (decideAnswer leg (entryFound found)) ⌝ }
 {
-    let FoundEntry::This(entry) = entry_at(board, leg) else {
-        return refuse(board, Refusal::NoSuchLeg);
+    let FoundEntry::This(entry) = found else {
+        return refuse(Refusal::NoSuchLeg);
     };
     let connection = entry.connection;
     let Connection::WithPartner { partner, alerting } = connection else {
-        return refuse(board, Refusal::NotPermitted);
+        return refuse(Refusal::NotPermitted);
     };
     if alerting {
-        return Effect {
-            verdict: Verdict::Accepted,
-            board: change(board, Change::EndAlerting(leg)),
-            out: empty().push_answer_told(partner, number_at(board, leg)),
-        };
+        let number = number_at(board, leg);
+        return accept(
+            Deed::Apply(Change::EndAlerting(leg)),
+            empty().push_answer_told(partner, number),
+        );
     }
-    refuse(board, Refusal::NotPermitted)
+    refuse(Refusal::NotPermitted)
 }
 
 fn far_party(board: Board, party: Party) -> FarParty
@@ -315,29 +331,10 @@ fn transfer(
     let reference = call.reference;
     let a = far_party(board, first);
     let b = far_party(board, second);
-    Effect {
-        verdict: Verdict::Accepted,
-        board: change(board, Change::Join(first.leg, second.leg)),
-        out: empty().push_transfer(reference, identifier, a, b),
-    }
-}
-
-fn assign(board: Board, party: Party, id: LinkId, identifier: IntegerOctets) -> Effect
-    ensures { λ r. ⌜ Carries r board (ServeCall party (Service.AssignLinkId id identifier)) ⌝ }
-{
-    let call = party.call;
-    let reference = call.reference;
-    let changed = change(board, Change::SetLinkId(reference, id));
-    let candidate = id.next();
-    let after = Board {
-        candidate,
-        ..changed
-    };
-    Effect {
-        verdict: Verdict::Accepted,
-        board: after,
-        out: empty().push_reply(reference, Answer::LinkIdResult(identifier, id)),
-    }
+    accept(
+        Deed::Apply(Change::Join(first.leg, second.leg)),
+        empty().push_transfer(reference, identifier, a, b),
+    )
 }
 
 // Carries out what the component of the party's Facility comes to.
@@ -347,17 +344,12 @@ fn carry_out(board: Board, party: Party, service: Service) -> Effect
     let call = party.call;
     let reference = call.reference;
     match service {
-        Service::Silent => Effect {
-            verdict: Verdict::Accepted,
-            board,
-            out: empty(),
-        },
-        Service::Respond(a) => Effect {
-            verdict: Verdict::Accepted,
-            board,
-            out: empty().push_reply(reference, a),
-        },
-        Service::AssignLinkId(id, identifier) => assign(board, party, id, identifier),
+        Service::Silent => accept(Deed::Stay, empty()),
+        Service::Respond(a) => accept(Deed::Stay, empty().push_reply(reference, a)),
+        Service::AssignLinkId(id, identifier) => accept(
+            Deed::Apply(Change::SetLinkId(reference, id)),
+            empty().push_reply(reference, Answer::LinkIdResult(identifier, id)),
+        ),
         Service::Transfer {
             named: first,
             other: second,
@@ -370,7 +362,7 @@ fn facility(board: Board, reference: CallReference, component: &[u8]) -> Effect
     ensures { λ r. ⌜ Carries r board (facilityOn board (reference .0) (now (component .entry))) ⌝ }
 {
     let FoundParty::This(party) = named(board, reference) else {
-        return refuse(board, Refusal::NoSuchCall);
+        return refuse(Refusal::NoSuchCall);
     };
     carry_out(
         board,
@@ -384,7 +376,7 @@ pub fn effect_of(board: Board, event: &[u8]) -> Effect
     ensures { λ r. ⌜ Carries r board (decision board (now (event .entry))) ⌝ }
 {
     match read_request(event) {
-        RequestHead::Malformed(refusal) => refuse(board, refusal),
+        RequestHead::Malformed(refusal) => refuse(refusal),
         RequestHead::Open {
             reference,
             leg,
@@ -400,10 +392,46 @@ pub fn effect_of(board: Board, event: &[u8]) -> Effect
             count,
             digits_of(event),
         ),
-        RequestHead::Progress(reference, state) => progress(board, reference, state),
-        RequestHead::Hold(reference, auxiliary) => hold(board, reference, auxiliary),
-        RequestHead::Release(leg) => release(board, leg),
+        RequestHead::Progress(reference, state) => {
+            progress(named(board, reference), reference, state)
+        }
+        RequestHead::Hold(reference, auxiliary) => {
+            hold(named(board, reference), reference, auxiliary)
+        }
+        RequestHead::Release(leg) => release(entry_at(board, leg)),
         RequestHead::Facility(reference, n) => facility(board, reference, &event[4..n + 4]),
-        RequestHead::Answer(leg) => answer(board, leg),
+        RequestHead::Answer(leg) => answer(board, entry_at(board, leg), leg),
+    }
+}
+
+// A LinkId that is assigned makes the value after it the next candidate.
+fn candidate_after(candidate: LinkId, change: Change) -> LinkId
+    ensures { λ r. ⌜ r ≡ candidateBy candidate change ⌝ }
+{
+    match change {
+        Change::SetState(_, _) => candidate,
+        Change::SetAuxiliary(_, _) => candidate,
+        Change::SetLinkId(_, id) => id.next(),
+        Change::Join(_, _) => candidate,
+        Change::EndAlerting(_) => candidate,
+        Change::Release(_) => candidate,
+        Change::ReleasePair(_, _) => candidate,
+    }
+}
+
+// The board after the effect.
+pub fn done(board: Board, effect: Effect) -> Board
+    ensures { λ r. ⌜ r ≡ boardBy (effect .deed) (effect .row) board ⌝ }
+{
+    let deed = effect.deed;
+    match deed {
+        Deed::Stay => board,
+        Deed::Enter => open_row(board, effect.row),
+        Deed::Apply(c) => {
+            let candidate = candidate_after(board.candidate, c);
+            let mut after = change(board, c);
+            after.candidate = candidate;
+            after
+        }
     }
 }

@@ -1,11 +1,14 @@
 // The network side of Explicit Call Transfer for one access: one call for every event.
 use board::Board;
 use effects::Verdict;
+use effects::done;
 use effects::effect_of;
 use events::Refusal;
 use replies::copy_out;
 use soundness::sound;
+ghost use mathlib.Core.Path.{_≡_};
 ghost use Rattle.ect.specs.Contract.{Steps};
+ghost use Rattle.ect.specs.Effects.{answerTo};
 
 mod digits;
 mod effects;
@@ -20,6 +23,16 @@ pub enum StepAnswer {
 pub struct Stepped {
     pub answer: StepAnswer,
     pub board: Board,
+}
+
+// A refused event has written no octets.
+fn answer_to(verdict: Verdict, n: usize) -> StepAnswer
+    ensures { λ r. ⌜ r ≡ answerTo verdict n ⌝ }
+{
+    match verdict {
+        Verdict::Accepted => StepAnswer::Accepted(n),
+        Verdict::Refused(refusal) => StepAnswer::Refused(refusal),
+    }
 }
 
 // The board after the event, with the replies in the front of the buffer; or a refusal that leaves both.
@@ -40,20 +53,11 @@ pub fn step(board: Board, event: &[u8], reply: &mut [u8]) -> Stepped
         };
     }
     let effect = effect_of(board, event);
-    let after = effect.board;
+    let out = effect.out;
+    let n = copy_out(reply, out);
     let verdict = effect.verdict;
-    match verdict {
-        Verdict::Refused(refusal) => Stepped {
-            answer: StepAnswer::Refused(refusal),
-            board: after,
-        },
-        Verdict::Accepted => {
-            let out = effect.out;
-            let n = copy_out(reply, out);
-            Stepped {
-                answer: StepAnswer::Accepted(n),
-                board: after,
-            }
-        }
+    Stepped {
+        answer: answer_to(verdict, n),
+        board: done(board, effect),
     }
 }

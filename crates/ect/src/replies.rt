@@ -63,7 +63,7 @@ fn mark_only(mark: u8) -> Told
 }
 
 // A number that is unknown, or not sent.
-pub fn unknown() -> Told
+fn unknown() -> Told
     ensures { λ r. ⌜ numberTold r ≡ markOnly 0 ⌝ }
 {
     mark_only(0)

@@ -6,9 +6,8 @@ use mathlib.Core.Bool.{_&&_, _||_, true, Bool, not, false, cond}
 use mathlib.Core.List.{_∷_, List, []}
 use mathlib.Core.Option.{some, Option, none, Option·map}
 use lib.ListN.{getD, drop}
-use Rattle.board.proofs.Searches.{calls-of-rows, rowParty, found-nothing, found-at}
+use Rattle.board.proofs.Searches.{calls-of-rows, rowParty}
 use Rattle.board.specs.Entries.{calls, taken, foundParty}
-use Rattle.board.specs.Lookup.{foundAt}
 use Rattle.board.specs.States.{active}
 use Rattle.board.specs.declared.Call.{Call}
 use Rattle.board.specs.declared.Party.{Party}
@@ -21,7 +20,6 @@ use Rattle.octets.specs.Lists.{all, keep, pick, consIf, consOpt, only, placeFro
 use Rattle.octets.specs.Tests.{has}
 use Rattle.rules.specs.Pairing.{verdict, heldWithIdle, activeWithDelivered}
 use native.Mathlib.Numerals.{add-one}
-use Rattle.board.specs.declared.Found.the-variants.{At, Nothing}
 use Rattle.board.specs.declared.FoundParty.the-variants as found-party
 
 -- ---- the verdict
@@ -131,23 +129,24 @@ module _ (q : Party → Bool) (rows : List Row) where
   kept-calls : keep q (calls (taken rows)) ≡ pick partyIn (keep (found q) rows)
   kept-calls = ap (keep q) calls-in ∙ keep-pick q rows
 
-  pub only-nowhere : foundAt (placeFrom (found q) 0 (drop 0 rows)) ≡ Nothing → found-party.Nothing ≡ foundParty (only (keep q (calls (taken rows))))
-  only-nowhere e = sym (ap (λ (l : List Party). foundParty (only l)) (kept-calls ∙ ap (pick partyIn) (none-kept (found q) 0 rows (found-nothing (placeFrom (found q) 0 rows) e))))
+  pub only-nowhere : none ≡ placeFrom (found q) 0 rows → found-party.Nothing ≡ foundParty (only (keep q (calls (taken rows))))
+  only-nowhere e = sym (ap (λ (l : List Party). foundParty (only l)) (kept-calls ∙ ap (pick partyIn) (none-kept (found q) 0 rows (sym e))))
 
-  module _ {i : ℕ} (e : foundAt (placeFrom (found q) 0 rows) ≡ At i) where
+  module _ {i : ℕ} (e : some i ≡ placeFrom (found q) 0 rows) where
     first : keep (found q) rows ≡ getD rows i noRow ∷ keep (found q) (drop (suc i) rows)
-    first = keep-from (found q) rows i (found-at (placeFrom (found q) 0 rows) i e)
+    first = keep-from (found q) rows i (sym e)
 
     there : found q (getD rows i noRow) ≡ true
-    there = place-lowest (found q) noRow rows i (found-at (placeFrom (found q) 0 rows) i e) .passes
+    there = place-lowest (found q) noRow rows i (sym e) .passes
 
     only-is : only (keep q (calls (taken rows))) ≡ one q (partyIn (getD rows i noRow)) (keep (found q) (drop (suc i) rows))
     only-is = ap only (kept-calls ∙ ap (pick partyIn) first) ∙ only-first q (getD rows i noRow) (keep (found q) (drop (suc i) rows)) there (kept-pass q (drop (suc i) rows))
 
-    pub only-here : foundAt (placeFrom (found q) (i + 1) (drop (i + 1) rows)) ≡ Nothing → foundParty (only (keep q (calls (taken rows)))) ≡ foundParty (partyIn (getD rows i noRow))
-    only-here n = ap foundParty (only-is ∙ ap (one q (partyIn (getD rows i noRow))) (subst (λ (k : ℕ). keep (found q) (drop k rows) ≡ []) (add-one i) (none-kept (found q) (i + 1) (drop (i + 1) rows) (found-nothing (placeFrom (found q) (i + 1) (drop (i + 1) rows)) n))))
+    pub only-here : none ≡ placeFrom (found q) (i + 1) (drop (i + 1) rows) → foundParty (partyIn (getD rows i noRow)) ≡ foundParty (only (keep q (calls (taken rows))))
+    only-here n =
+        sym (ap foundParty (only-is ∙ ap (one q (partyIn (getD rows i noRow))) (subst (λ (k : ℕ). keep (found q) (drop k rows) ≡ []) (add-one i) (none-kept (found q) (i + 1) (drop (i + 1) rows) (sym n)))))
 
-    pub only-several : {j : ℕ} → foundAt (placeFrom (found q) (i + 1) (drop (i + 1) rows)) ≡ At j → found-party.Nothing ≡ foundParty (only (keep q (calls (taken rows))))
+    pub only-several : {j : ℕ} → some j ≡ placeFrom (found q) (i + 1) (drop (i + 1) rows) → found-party.Nothing ≡ foundParty (only (keep q (calls (taken rows))))
     only-several {j} n =
-        let m = some-kept (found q) (i + 1) (drop (i + 1) rows) (found-at (placeFrom (found q) (i + 1) (drop (i + 1) rows)) j n) in
+        let m = some-kept (found q) (i + 1) (drop (i + 1) rows) (sym n) in
         sym (ap foundParty (only-is ∙ ap (one q (partyIn (getD rows i noRow))) (subst (λ (k : ℕ). keep (found q) (drop k rows) ≡ m .0 ∷ m .1) (add-one i) (m .2))))

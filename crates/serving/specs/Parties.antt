@@ -4,7 +4,6 @@ use mathlib.Core.Bool.{Bool, true, false}
 use mathlib.Core.List.{List}
 use mathlib.Core.Option.{Option, none, some}
 use lib.IntN.{ℤ}
-use Rattle.octets.specs.declared.CallReference.{CallReference}
 use Rattle.octets.specs.declared.LinkId.{LinkId}
 use Rattle.octets.specs.declared.IntegerOctets.{IntegerOctets}
 use Rattle.octets.specs.Lists.{keep, find}
@@ -21,7 +20,6 @@ use Rattle.board.specs.Entries.{taken, calls}
 use Rattle.board.specs.LinkIds.{freeLinkId}
 use Rattle.rules.specs.Serving.{partnerFor, live, hasLinkId, perform}
 use Rattle.rules.specs.declared.Service.{Service}
-use Rattle.rules.specs.Checks.{named}
 
 abbrev pub standingParty : ℕ → Standing → Option Party
 standingParty leg Empty = none
@@ -46,10 +44,7 @@ partiesOf b = calls (entriesOf b)
 abbrev pub freeIn : Board → Option ℤ
 freeIn b = freeLinkId 16 (b .candidate .0) (live (partiesOf b))
 
--- the call with a reference; the calls that pair with a named one; the call with a LinkId
-abbrev pub namedOn : Board → CallReference → Option Party
-namedOn b r = named (r .0) (entriesOf b)
-
+-- the calls that pair with a named one; the call with a LinkId
 abbrev pub pairedOn : Board → Party → List Party
 pairedOn b p = keep (partnerFor (b .options) p) (partiesOf b)
 

@@ -5,20 +5,16 @@ use board::Board;
 use board::Call;
 use board::CallState;
 use board::Direction;
-use board::Found;
 use board::FoundParty;
 use board::Options;
 use board::Party;
 use board::Row;
 use board::changing::is_delivered;
 ghost use mathlib.Core.Path.{_≡_};
-ghost use Prim.Native.Nat.{_≤_};
-ghost use lib.ListN.{drop};
-ghost use Rattle.octets.specs.Lists.{only, keep, placeFrom};
+ghost use Rattle.octets.specs.Lists.{only, keep};
 ghost use Rattle.board.specs.States.{stateNumber, auxiliaryNumber, directionNumber};
 ghost use Rattle.board.specs.States.{active, delivered, idle, held, outgoing};
 ghost use Rattle.board.specs.Entries.{foundParty};
-ghost use Rattle.board.specs.Lookup.{foundAt};
 ghost use Rattle.rules.specs.Pairing.{heldWithIdle, activeWithDelivered, verdict as verdictOf, pairs as pair};
 ghost use Rattle.rules.specs.Serving.{partnerFor};
 ghost use Rattle.serving.specs.Parties.{hasPartner, partiesOf};
@@ -136,29 +132,21 @@ fn has_partner(options: Options, named: Party, row: Row) -> bool
     is_partner(options, named, other)
 }
 
-// The lowest place from `start` on whose call pairs with the named one.
-fn partner_from(board: Board, named: Party, start: usize) -> Found
-    requires { ⌜ start ≤ 64 ⌝ }
-    ensures { λ r. ⌜ r ≡ foundAt (placeFrom (hasPartner (board .options) named) start (drop start (board .rows))) ⌝ }
-{
-    let options = board.options;
-    for i in start..64 {
-        if has_partner(options, named, board.rows[i]) {
-            return Found::At(i);
-        }
-    }
-    Found::Nothing
-}
-
 // The other party that pairs with the named one, where there is exactly one.
 pub fn only_partner(board: Board, named: Party) -> FoundParty
     ensures { λ r. ⌜ r ≡ foundParty (only (keep (partnerFor (board .options) named) (partiesOf board))) ⌝ }
 {
-    let Found::At(i) = partner_from(board, named, 0) else {
-        return FoundParty::Nothing;
-    };
-    let Found::Nothing = partner_from(board, named, i + 1) else {
-        return FoundParty::Nothing;
-    };
-    party_of(board.rows[i])
+    let options = board.options;
+    for i in 0..64 {
+        let row = board.rows[i];
+        if has_partner(options, named, row) {
+            for j in i + 1..64 {
+                if has_partner(options, named, board.rows[j]) {
+                    return FoundParty::Nothing;
+                }
+            }
+            return party_of(row);
+        }
+    }
+    FoundParty::Nothing
 }

@@ -2,14 +2,13 @@
 use board::Board;
 use board::Connection;
 use board::Entry;
-use board::Found;
 use board::FoundEntry;
 use board::FoundParty;
 use board::Party;
 use board::Row;
 use board::Standing;
 use board::finding::Key;
-use board::finding::find;
+use board::finding::find_row;
 use octets::CallReference;
 use octets::LinkId;
 ghost use mathlib.Core.Path.{_≡_};
@@ -53,28 +52,19 @@ fn entry_of(row: Row) -> FoundEntry
 pub fn named(board: Board, reference: CallReference) -> FoundParty
     ensures { λ r. ⌜ r ≡ foundParty (namedIn (reference .0) (entriesOf board)) ⌝ }
 {
-    let Found::At(i) = find(board, Key::Reference(reference)) else {
-        return FoundParty::Nothing;
-    };
-    party_of(board.rows[i])
+    party_of(find_row(board, Key::Reference(reference)))
 }
 
 // The party whose call has the LinkId.
 pub fn linked(board: Board, id: LinkId) -> FoundParty
     ensures { λ r. ⌜ r ≡ foundParty (findIn (hasLinkId id) (partiesOf board)) ⌝ }
 {
-    let Found::At(i) = find(board, Key::LinkId(id)) else {
-        return FoundParty::Nothing;
-    };
-    party_of(board.rows[i])
+    party_of(find_row(board, Key::LinkId(id)))
 }
 
 // The entry of the leg.
 pub fn entry_at(board: Board, leg: u32) -> FoundEntry
     ensures { λ r. ⌜ r ≡ foundEntry (entryAt leg (entriesOf board)) ⌝ }
 {
-    let Found::At(i) = find(board, Key::Leg(leg)) else {
-        return FoundEntry::Nothing;
-    };
-    entry_of(board.rows[i])
+    entry_of(find_row(board, Key::Leg(leg)))
 }

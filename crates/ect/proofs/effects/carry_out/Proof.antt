@@ -1,5 +1,5 @@
 use mathlib.Core.Path.{sym}
-use Rattle.ect.proofs.EffectLaws.{service-is, served-silent, responded}
+use Rattle.ect.proofs.EffectLaws.{service-is, served-silent, responded, assigned-link}
 use borrow.Author.Needs.{needs}
 use Rattle.ect.proofs.effects.carry_out.Statement.{statement}
 use Rattle.ect.proofs.effects.carry_out.Tie as tie
@@ -10,6 +10,9 @@ enum-told c = search needs
 empty-requires : tie.Need-empty-requires
 empty-requires c κs = search needs
 
+accept-requires : tie.Need-accept-requires
+accept-requires c κs = search needs
+
 enum-known-service : tie.Need-enum-known-service
 enum-known-service c = search needs
 
@@ -19,11 +22,20 @@ empty-requires-2 c κs = search needs
 push-reply-requires : tie.Need-push-reply-requires
 push-reply-requires c κs = search needs
 
+accept-requires-2 : tie.Need-accept-requires-2
+accept-requires-2 c κs = search needs
+
 enum-known-service-2 : tie.Need-enum-known-service-2
 enum-known-service-2 c = search needs
 
-assign-requires : tie.Need-assign-requires
-assign-requires c κs = search needs
+empty-requires-3 : tie.Need-empty-requires-3
+empty-requires-3 c κs = search needs
+
+push-reply-requires-2 : tie.Need-push-reply-requires-2
+push-reply-requires-2 c κs = search needs
+
+accept-requires-3 : tie.Need-accept-requires-3
+accept-requires-3 c κs = search needs
 
 enum-known-service-3 : tie.Need-enum-known-service-3
 enum-known-service-3 c = search needs
@@ -33,17 +45,21 @@ transfer-requires c κs = search needs
 
 returns : tie.Need-returns
 returns c =
-    let s = c .before .before .before .before .before in
-    service-is (s .args .party) (sym (c .before .enum-told .given .1)) (served-silent (s .args .board) (s .args .party) (c .empty .ensures))
+    let s = c .before .before .before .before .before .before .args in
+    service-is (s .party) (sym (c .before .before .enum-told .given .1)) (served-silent (s .party) (c .accept .ensures) (c .before .empty .ensures) (s .board))
 
 returns-2 : tie.Need-returns-2
 returns-2 c =
-    let s = c .before .before .before .before .before .before .before in
-    service-is (s .args .party) (sym (c .before .before .before .service .given .1))
-    (responded (s .args .board) (s .args .party) (c .before .before .before .service .given .0 .0) (c .before .empty2 .ensures) (c .push-reply .ensures))
+    let s = c .before .before .before .before .before .before .before .before .args in
+    let x = c .before .before .before .before .service .given in
+    service-is (s .party) (sym (x .1)) (responded (s .party) (x .0 .0) (c .accept2 .ensures) (c .before .before .empty2 .ensures) (c .before .push-reply .ensures) (s .board))
 
 returns-3 : tie.Need-returns-3
-returns-3 c = service-is (c .before .before .before .before .before .before .args .party) (sym (c .before .before .service2 .given .1)) (c .assign .ensures)
+returns-3 c =
+    let s = c .before .before .before .before .before .before .before .before .args in
+    let x = c .before .before .before .before .service2 .given in
+    service-is (s .party) (sym (x .1))
+    (assigned-link (s .party) (x .0 .0) (x .0 .1 .0) (c .accept3 .ensures) (c .before .before .empty3 .ensures) (c .before .push-reply2 .ensures) (s .board))
 
 returns-4 : tie.Need-returns-4
 returns-4 c = service-is (c .before .before .before .before .before .before .args .party) (sym (c .before .before .service3 .given .1)) (c .transfer .ensures)
@@ -54,11 +70,15 @@ carry-out-spec =
     (tie.spec
     enum-told
     empty-requires
+    accept-requires
     enum-known-service
     empty-requires-2
     push-reply-requires
+    accept-requires-2
     enum-known-service-2
-    assign-requires
+    empty-requires-3
+    push-reply-requires-2
+    accept-requires-3
     enum-known-service-3
     transfer-requires
     returns

@@ -1,9 +1,9 @@
-use Rattle.board.specs.Entries.{taken}
 use native.Mathlib.Omega.{arith}
 use mathlib.Core.Path.{_∙_}
+use Rattle.board.specs.Entries.{taken}
 use Rattle.events.proofs.RecordLaws.{said, open-length, component-within, component-small, digits-are}
-use Rattle.rules.specs.Checks.{decide, named}
-use Rattle.ect.proofs.EffectLaws.{by-request, component-is, component-part}
+use Rattle.rules.specs.Checks.{decide, named, entryAt, decideProgress, decideHold, decideRelease, decideAnswer}
+use Rattle.ect.proofs.EffectLaws.{by-request, by-party, by-entry, component-is, component-part}
 use borrow.Author.Needs.{needs}
 use Rattle.ect.proofs.effects.effect_of.Statement.{statement}
 use Rattle.ect.proofs.effects.effect_of.Tie as tie
@@ -29,17 +29,26 @@ open-requires c κs = search needs
 enum-known-reference-2 : tie.Need-enum-known-reference-2
 enum-known-reference-2 c = search needs
 
+named-requires : tie.Need-named-requires
+named-requires c κs = search needs
+
 progress-requires : tie.Need-progress-requires
 progress-requires c κs = search needs
 
 enum-known-reference-3 : tie.Need-enum-known-reference-3
 enum-known-reference-3 c = search needs
 
+named-requires-2 : tie.Need-named-requires-2
+named-requires-2 c κs = search needs
+
 hold-requires : tie.Need-hold-requires
 hold-requires c κs = search needs
 
 enum-known-leg : tie.Need-enum-known-leg
 enum-known-leg c = search needs
+
+entry-at-requires : tie.Need-entry-at-requires
+entry-at-requires c κs = search needs
 
 release-requires : tie.Need-release-requires
 release-requires c κs = search needs
@@ -65,65 +74,63 @@ facility-requires c κs = search needs
 enum-known-leg-2 : tie.Need-enum-known-leg-2
 enum-known-leg-2 c = search needs
 
+entry-at-requires-2 : tie.Need-entry-at-requires-2
+entry-at-requires-2 c κs = search needs
+
 answer-requires : tie.Need-answer-requires
 answer-requires c κs = search needs
 
 returns : tie.Need-returns
 unfolding decide
 returns c =
-    let s = c .before .before .before .before .before .before in
-    by-request (s .args .board) (s .args .event .now) _
-    (said (c .before .before .before .before .read-request .ensures) (c .before .before .refusal .given .1)) (c .refuse .ensures)
+    let s = c .before .before .before .before .before .before .args in
+    by-request (s .board) (s .event .now) _ (said (c .before .before .before .before .read-request .ensures) (c .before .before .refusal .given .1))
+    (c .refuse .ensures (s .board))
 
 returns-2 : tie.Need-returns-2
 unfolding decide
 returns-2 c =
-    let s = c .before .before .before .before .before .before .before in
-    by-request (s .args .board) (s .args .event .now) _
-    (said (c .before .before .before .before .before .read-request .ensures) (c .before .before .before .reference .given .1))
-    (rw
-    (c .before .digits-of .ensures
-    ∙ digits-are (s .args .event .now)
-    (open-length (c .before .before .before .before .before .read-request .ensures) (c .before .before .before .reference .given .1)))
-    at (c .«open» .ensures))
+    let s = c .before .before .before .before .before .before .before .args in
+    by-request (s .board) (s .event .now) _ (said (c .before .before .before .before .before .read-request .ensures) (c .before .before .before .reference .given .1))
+    (rw (c .before .digits-of .ensures ∙ digits-are (s .event .now) (open-length (c .before .before .before .before .before .read-request .ensures) (c .before .before .before .reference .given .1))) at (c .«open» .ensures))
 
 returns-3 : tie.Need-returns-3
 unfolding decide
 returns-3 c =
-    let s = c .before .before .before .before .before .before in
-    by-request (s .args .board) (s .args .event .now) _
-    (said (c .before .before .before .before .read-request .ensures) (c .before .before .reference2 .given .1)) (c .progress .ensures)
+    let s = c .before .before .before .before .before .before .before .args in
+    by-request (s .board) (s .event .now) _ (said (c .before .before .before .before .before .read-request .ensures) (c .before .before .before .reference2 .given .1))
+    (by-party (decideProgress (c .before .before .before .reference2 .given .0 .0 .0) (c .before .before .before .reference2 .given .0 .1 .0)) (named (c .before .before .before .reference2 .given .0 .0 .0) (taken (s .board .rows))) (c .before .named .ensures)
+    (c .progress .ensures (s .board)))
 
 returns-4 : tie.Need-returns-4
 unfolding decide
 returns-4 c =
-    let s = c .before .before .before .before .before .before in
-    by-request (s .args .board) (s .args .event .now) _
-    (said (c .before .before .before .before .read-request .ensures) (c .before .before .reference3 .given .1)) (c .hold .ensures)
+    let s = c .before .before .before .before .before .before .before .args in
+    by-request (s .board) (s .event .now) _ (said (c .before .before .before .before .before .read-request .ensures) (c .before .before .before .reference3 .given .1))
+    (by-party (decideHold (c .before .before .before .reference3 .given .0 .0 .0) (c .before .before .before .reference3 .given .0 .1 .0)) (named (c .before .before .before .reference3 .given .0 .0 .0) (taken (s .board .rows))) (c .before .named2 .ensures)
+    (c .hold .ensures (s .board)))
 
 returns-5 : tie.Need-returns-5
 unfolding decide
 returns-5 c =
-    let s = c .before .before .before .before .before .before in
-    by-request (s .args .board) (s .args .event .now) _
-    (said (c .before .before .before .before .read-request .ensures) (c .before .before .leg .given .1)) (c .release .ensures)
+    let s = c .before .before .before .before .before .before .before .args in
+    by-request (s .board) (s .event .now) _ (said (c .before .before .before .before .before .read-request .ensures) (c .before .before .before .leg .given .1))
+    (by-entry decideRelease (entryAt (c .before .before .before .leg .given .0 .0) (taken (s .board .rows))) (c .before .entry-at .ensures) (c .release .ensures (s .board)))
 
 returns-6 : tie.Need-returns-6
 unfolding decide
 returns-6 c =
-    let s = c .before .before .before .before .before .before .before in
-    by-request (s .args .board) (s .args .event .now) _
-    (said (c .before .before .before .before .before .read-request .ensures) (c .before .before .before .reference4 .given .1))
-    (component-is (s .args .board .options) (s .args .board .candidate .0) (taken (s .args .board .rows))
-    (named (c .before .before .before .reference4 .given .0 .0 .0) (taken (s .args .board .rows)))
-    (component-part (c .before .before .before .reference4 .given .0 .1 .0) (s .args .event .now)) (c .facility .ensures))
+    let s = c .before .before .before .before .before .before .before .args in
+    by-request (s .board) (s .event .now) _ (said (c .before .before .before .before .before .read-request .ensures) (c .before .before .before .reference4 .given .1))
+    (component-is (s .board .options) (s .board .candidate .0) (taken (s .board .rows)) (named (c .before .before .before .reference4 .given .0 .0 .0) (taken (s .board .rows)))
+    (component-part (c .before .before .before .reference4 .given .0 .1 .0) (s .event .now)) (c .facility .ensures))
 
 returns-7 : tie.Need-returns-7
 unfolding decide
 returns-7 c =
-    let s = c .before .before .before .before .before .before in
-    by-request (s .args .board) (s .args .event .now) _
-    (said (c .before .before .before .before .read-request .ensures) (c .before .before .leg2 .given .1)) (c .answer .ensures)
+    let s = c .before .before .before .before .before .before .before .args in
+    by-request (s .board) (s .event .now) _ (said (c .before .before .before .before .before .read-request .ensures) (c .before .before .before .leg2 .given .1))
+    (by-entry (decideAnswer (c .before .before .before .leg2 .given .0 .0)) (entryAt (c .before .before .before .leg2 .given .0 .0) (taken (s .board .rows))) (c .before .entry-at2 .ensures) (c .answer .ensures))
 
 pub effect-of-spec : {M : Type 1} → statement M
 effect-of-spec =
@@ -136,10 +143,13 @@ effect-of-spec =
     digits-of-requires
     open-requires
     enum-known-reference-2
+    named-requires
     progress-requires
     enum-known-reference-3
+    named-requires-2
     hold-requires
     enum-known-leg
+    entry-at-requires
     release-requires
     enum-known-reference-4
     add-facility
@@ -148,6 +158,7 @@ effect-of-spec =
     part-facility-end
     facility-requires
     enum-known-leg-2
+    entry-at-requires-2
     answer-requires
     returns
     returns-2

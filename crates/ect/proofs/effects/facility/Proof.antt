@@ -1,9 +1,9 @@
-use mathlib.Core.Path.{sym, ap, _∙_}
+use mathlib.Core.Path.{ap, _∙_}
 use Rattle.octets.proofs.Places.{told}
 use Rattle.board.specs.Entries.{taken, calls}
-use Rattle.rules.specs.Checks.{named, entryAt}
-use Rattle.serving.proofs.PartyLaws.{party-none, party-some, entry-none, entry-some}
+use Rattle.rules.specs.Checks.{named}
 use Rattle.rules.specs.Serving.{serve}
+use Rattle.serving.proofs.PartyLaws.{party-none, party-some}
 use Rattle.ect.proofs.EffectLaws.{facility-none, facility-some, service-is}
 use borrow.Author.Needs.{needs}
 use Rattle.ect.proofs.effects.facility.Statement.{statement}
@@ -23,12 +23,10 @@ refuse-requires c κs = search needs
 
 returns : tie.Need-returns
 returns c =
-    let s = c .before .before .before .before .before in
-    facility-none (s .args .board .options) (s .args .board .candidate .0) (taken (s .args .board .rows)) (s .args .component .now)
-    (named (s .args .reference .0) (taken (s .args .board .rows)))
-    (party-none (named (s .args .reference .0) (taken (s .args .board .rows)))
-    (told (c .before .before .before .named .ensures) (c .before .enum-told .given .1)))
-    (c .refuse .ensures)
+    let s = c .before .before .before .before .before .args in
+    let o = named (s .reference .0) (taken (s .board .rows)) in
+    facility-none (s .board .options) (s .board .candidate .0) (taken (s .board .rows)) (s .component .now) o
+    (party-none o (told (c .before .before .before .named .ensures) (c .before .enum-told .given .1))) (c .refuse .ensures (s .board))
 
 read-requires : tie.Need-read-requires
 read-requires c κs = search needs

@@ -9,21 +9,20 @@ far-party-requires c κs = search needs
 far-party-requires-2 : tie.Need-far-party-requires-2
 far-party-requires-2 c κs = search needs
 
-change-requires : tie.Need-change-requires
-change-requires c κs = search needs
-
 empty-requires : tie.Need-empty-requires
 empty-requires c κs = search needs
 
 push-transfer-requires : tie.Need-push-transfer-requires
 push-transfer-requires c κs = search needs
 
+accept-requires : tie.Need-accept-requires
+accept-requires c κs = search needs
+
 returns : tie.Need-returns
 returns c =
-    let s = c .before .before .before .before .before .before .before in
-    transferred-calls (s .args .board) (s .args .party) (s .args .first) (s .args .second) (s .args .identifier) (c .before .before .change .ensures)
-    (c .before .before .before .before .far-party .ensures) (c .before .before .before .far-party2 .ensures) (c .before .empty .ensures)
-    (c .push-transfer .ensures)
+    let s = c .before .before .before .before .before .before .before .args in
+    transferred-calls (s .party) (s .board) (s .first) (s .second) (s .identifier) (c .accept .ensures) (c .before .before .before .before .far-party .ensures) (c .before .before .before .far-party2 .ensures)
+    (c .before .before .empty .ensures) (c .before .push-transfer .ensures)
 
 pub transfer-spec : {M : Type 1} → statement M
 transfer-spec =
@@ -31,7 +30,7 @@ transfer-spec =
     (tie.spec
     far-party-requires
     far-party-requires-2
-    change-requires
     empty-requires
     push-transfer-requires
+    accept-requires
     returns)

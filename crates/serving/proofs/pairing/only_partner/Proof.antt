@@ -1,86 +1,137 @@
-use Prim.Native.Nat.{_<_}
+use Prim.Native.Nat.{_≤_, _+_, _-_}
 use native.Mathlib.Omega.{arith}
-use mathlib.Core.Path.{sym, _∙_}
-use borrow.Author.Needs.{needs}
-use Rattle.octets.proofs.Places.{told, place-lowest}
+use mathlib.Core.Path.{_≡_, _∙_, refl}
+use lib.ListN.{length, drop}
 use Rattle.octets.specs.Lists.{placeFrom}
+use Rattle.octets.proofs.Places.{place-yes, place-no, place-end}
 use Rattle.board.proofs.Long.{board-long}
-use Rattle.board.proofs.Searches.{found-at}
 use Rattle.rules.specs.Serving.{partnerFor}
 use Rattle.serving.specs.Parties.{hasPartner}
-use Rattle.serving.proofs.PartyLaws.{noRow}
 use Rattle.serving.proofs.PairingLaws.{only-nowhere, only-here, only-several}
+use borrow.Author.Needs.{needs}
 use Rattle.serving.proofs.pairing.only_partner.Statement.{statement}
 use Rattle.serving.proofs.pairing.only_partner.Tie as tie
 
-below : (c : tie.After-i) → c .i .given .0 .0 < 64
-below c =
-    let l = board-long (c .before .before .before .args .t1) (c .before .before .before .good .0) in
-    let p = hasPartner (c .before .before .before .args .t1 .options) (c .before .before .before .args .named) in
-    let w = place-lowest p noRow (c .before .before .before .args .t1 .rows) (c .i .given .0 .0) (found-at (placeFrom p 0 (c .before .before .before .args .t1 .rows)) (c .i .given .0 .0) (told (c .before .before .partner-from .ensures) (c .i .given .1))) .within in
-    omega arith
+-- no row before i pairs with the named call; none between i and j
+abbrev Inv-loop2 : tie.InvT-loop2
+Inv-loop2 named board options i row j₀ j =
+    (j ≤ 64) × (placeFrom (hasPartner options named) j (drop j (board .rows)) ≡ placeFrom (hasPartner options named) (i + 1) (drop (i + 1) (board .rows)))
 
-partner-from-requires : tie.Need-partner-from-requires
-partner-from-requires c κs = search needs
+abbrev μ-loop2 : tie.MeasureT-loop2
+μ-loop2 named board options i row j₀ j = 64 - j
 
-enum-known-i : tie.Need-enum-known-i
-enum-known-i c = search needs
+abbrev Inv-loop : tie.InvT-loop
+Inv-loop named board options i₀ i =
+    (i ≤ 64) × (placeFrom (hasPartner options named) i (drop i (board .rows)) ≡ placeFrom (hasPartner options named) 0 (board .rows))
 
-enum-told : tie.Need-enum-told
-enum-told c = search needs
+abbrev μ-loop : tie.MeasureT-loop
+μ-loop named board options i₀ i = 64 - i
 
-returns : tie.Need-returns
+long : (c : tie.Start Inv-loop2 μ-loop2 Inv-loop μ-loop) → length (c .args .t1 .rows) ≡ 64
+long c = board-long (c .args .t1) (c .good .0)
+
+loop-holds : tie.Need-loop-holds Inv-loop2 μ-loop2 Inv-loop μ-loop
+loop-holds c = search needs
+
+mul-row : tie.Need-mul-row Inv-loop2 μ-loop2 Inv-loop μ-loop
+mul-row c = search needs
+
+element-copy-out-row : tie.Need-element-copy-out-row Inv-loop2 μ-loop2 Inv-loop μ-loop
+element-copy-out-row c = search needs
+
+has-partner-requires : tie.Need-has-partner-requires Inv-loop2 μ-loop2 Inv-loop μ-loop
+has-partner-requires c κs = search needs
+
+add-j : tie.Need-add-j Inv-loop2 μ-loop2 Inv-loop μ-loop
+add-j c = search needs
+
+loop2-holds : tie.Need-loop2-holds Inv-loop2 μ-loop2 Inv-loop μ-loop
+loop2-holds c = (omega arith, refl)
+
+mul-has-partner : tie.Need-mul-has-partner Inv-loop2 μ-loop2 Inv-loop μ-loop
+mul-has-partner c = search needs
+
+element-copy-out-has-partner :
+    tie.Need-element-copy-out-has-partner Inv-loop2 μ-loop2 Inv-loop μ-loop
+element-copy-out-has-partner c = search needs
+
+has-partner-requires-2 : tie.Need-has-partner-requires-2 Inv-loop2 μ-loop2 Inv-loop μ-loop
+has-partner-requires-2 c κs = search needs
+
+returns : tie.Need-returns Inv-loop2 μ-loop2 Inv-loop μ-loop
 returns c =
-    let s = c .before .before .before in
-    only-nowhere (partnerFor (s .args .t1 .options) (s .args .named)) (s .args .t1 .rows)
-    (told (c .before .before .partner-from .ensures) (c .enum-told .given .1))
+    let s = c .before .before .before .before .before .before .before .before .before .before .before in
+    let l = long s in
+    only-several (partnerFor (s .args .t1 .options) (s .args .named)) (s .args .t1 .rows)
+    (place-yes (hasPartner (s .args .t1 .options) (s .args .named)) (s .args .t1 .rows) (c .before .before .before .before .before .before .before .before .before .loop .i) _ _ (omega arith) (c .before .before .before .before .before .before .has-partner .ensures) (c .before .before .before .before .before .if1 .taken) ∙ c .before .before .before .before .before .before .before .before .before .loop .inv .1)
+    (place-yes (hasPartner (s .args .t1 .options) (s .args .named)) (s .args .t1 .rows) (c .before .before .before .before .loop2 .j) _ _ (omega arith) (c .before .has-partner2 .ensures) (c .if2 .taken) ∙ c .before .before .before .before .loop2 .inv .1)
 
-add-partner-from : tie.Need-add-partner-from
-add-partner-from c = let h = below (c .before) in search needs
+add-j-2 : tie.Need-add-j-2 Inv-loop2 μ-loop2 Inv-loop μ-loop
+add-j-2 c = search needs
 
-partner-from-requires-2 : tie.Need-partner-from-requires-2
-partner-from-requires-2 c κs = let h = below (c .before) in omega arith
+loop2-less : tie.Need-loop2-less Inv-loop2 μ-loop2 Inv-loop μ-loop
+loop2-less c = search needs
 
-enum-told-2 : tie.Need-enum-told-2
-enum-told-2 c = search needs
+loop2-again : tie.Need-loop2-again Inv-loop2 μ-loop2 Inv-loop μ-loop
+loop2-again c =
+    let s = c .before .before .before .before .before .before .before .before .before .before .before in
+    let l = long s in
+    (omega arith, place-no (hasPartner (s .args .t1 .options) (s .args .named)) (s .args .t1 .rows) (c .before .before .before .before .loop2 .j) _ _ (omega arith) (c .before .has-partner2 .ensures) (c .if2 .left) ∙ c .before .before .before .before .loop2 .inv .1)
 
-enum-told-3 : tie.Need-enum-told-3
-enum-told-3 c = search needs
-
-returns-2 : tie.Need-returns-2
-returns-2 c =
-    only-several (partnerFor (c .before .before .before .before .before .before .before .args .t1 .options) (c .before .before .before .before .before .before .before .args .named)) (c .before .before .before .before .before .before .before .args .t1 .rows)
-    (told (c .before .before .before .before .before .before .partner-from .ensures) (c .before .before .before .before .i .given .1)) (told (c .before .before .partner-from2 .ensures) (c .enum-told3 .given .1))
-
-mul-party-of : tie.Need-mul-party-of
-mul-party-of c = let h = below (c .before .before .before .before) in search needs
-
-element-copy-out-party-of : tie.Need-element-copy-out-party-of
-element-copy-out-party-of c = below (c .before .before .before .before)
-
-party-of-requires : tie.Need-party-of-requires
+party-of-requires : tie.Need-party-of-requires Inv-loop2 μ-loop2 Inv-loop μ-loop
 party-of-requires c κs = search needs
 
-returns-3 : tie.Need-returns-3
-returns-3 c =
+returns-2 : tie.Need-returns-2 Inv-loop2 μ-loop2 Inv-loop μ-loop
+returns-2 c =
+    let s = c .before .before .before .before .before .before .before .before .before in
+    let l = long s in
     c .party-of .ensures
-    ∙ sym (only-here (partnerFor (c .before .before .before .before .before .before .before .before .before .args .t1 .options) (c .before .before .before .before .before .before .before .before .before .args .named)) (c .before .before .before .before .before .before .before .before .before .args .t1 .rows)
-    (told (c .before .before .before .before .before .before .before .before .partner-from .ensures) (c .before .before .before .before .before .before .i .given .1)) (told (c .before .before .before .before .partner-from2 .ensures) (c .before .before .enum-told2 .given .1)))
+    ∙ only-here (partnerFor (s .args .t1 .options) (s .args .named)) (s .args .t1 .rows)
+    (place-yes (hasPartner (s .args .t1 .options) (s .args .named)) (s .args .t1 .rows) (c .before .before .before .before .before .before .before .loop .i) _ _ (omega arith) (c .before .before .before .before .has-partner .ensures) (c .before .before .before .if1 .taken) ∙ c .before .before .before .before .before .before .before .loop .inv .1)
+    (place-end (hasPartner (s .args .t1 .options) (s .args .named)) (s .args .t1 .rows) (c .before .before .loop2 .j) (omega arith) ∙ c .before .before .loop2 .inv .1)
+
+add-i : tie.Need-add-i Inv-loop2 μ-loop2 Inv-loop μ-loop
+add-i c = search needs
+
+loop-less : tie.Need-loop-less Inv-loop2 μ-loop2 Inv-loop μ-loop
+loop-less c = search needs
+
+loop-again : tie.Need-loop-again Inv-loop2 μ-loop2 Inv-loop μ-loop
+loop-again c =
+    let s = c .before .before .before .before .before .before in
+    let l = long s in
+    (omega arith, place-no (hasPartner (s .args .t1 .options) (s .args .named)) (s .args .t1 .rows) (c .before .before .before .before .loop .i) _ _ (omega arith) (c .before .has-partner .ensures) (c .if1 .left) ∙ c .before .before .before .before .loop .inv .1)
+
+returns-3 : tie.Need-returns-3 Inv-loop2 μ-loop2 Inv-loop μ-loop
+returns-3 c =
+    let s = c .before .before .before in
+    let l = long s in
+    only-nowhere (partnerFor (s .args .t1 .options) (s .args .named)) (s .args .t1 .rows) (place-end (hasPartner (s .args .t1 .options) (s .args .named)) (s .args .t1 .rows) (c .before .loop .i) (omega arith) ∙ c .before .loop .inv .1)
 
 pub only-partner-spec : {M : Type 1} → statement M
 only-partner-spec =
     tie.close
     (tie.spec
-    partner-from-requires
-    enum-known-i
-    enum-told
+    Inv-loop2
+    μ-loop2
+    Inv-loop
+    μ-loop
+    loop-holds
+    mul-row
+    element-copy-out-row
+    has-partner-requires
+    add-j
+    loop2-holds
+    mul-has-partner
+    element-copy-out-has-partner
+    has-partner-requires-2
     returns
-    add-partner-from
-    partner-from-requires-2
-    enum-told-2
-    enum-told-3
-    returns-2
-    mul-party-of
-    element-copy-out-party-of
+    add-j-2
+    loop2-less
+    loop2-again
     party-of-requires
+    returns-2
+    add-i
+    loop-less
+    loop-again
     returns-3)

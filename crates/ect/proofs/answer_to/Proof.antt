@@ -1,0 +1,21 @@
+use mathlib.Core.Path.{sym, ap}
+use Rattle.ect.specs.declared.effects.Verdict.{Verdict}
+use Rattle.ect.specs.Effects.{answerTo}
+use borrow.Author.Needs.{needs}
+use Rattle.ect.proofs.answer_to.Statement.{statement}
+use Rattle.ect.proofs.answer_to.Tie as tie
+
+enum-told : tie.Need-enum-told
+enum-told c = search needs
+
+enum-known-verdict : tie.Need-enum-known-verdict
+enum-known-verdict c = search needs
+
+returns : tie.Need-returns
+returns c = sym (ap (λ (v : Verdict). answerTo v (c .before .before .args .n)) (c .enum-told .given .1))
+
+returns-2 : tie.Need-returns-2
+returns-2 c = sym (ap (λ (v : Verdict). answerTo v (c .before .before .before .args .n)) (c .before .verdict .given .1))
+
+pub answer-to-spec : {M : Type 1} → statement M
+answer-to-spec = tie.close (tie.spec enum-told enum-known-verdict returns returns-2)
