@@ -52,6 +52,7 @@ pub fn step(board: Board, event: &[u8], reply: &mut [u8]) -> Stepped
             board,
         };
     }
+    // A refusal takes the same way, with no replies and nothing done: a branch of its own would copy the board.
     let effect = effect_of(board, event);
     let out = effect.out;
     let n = copy_out(reply, out);
