@@ -1,18 +1,16 @@
 -- Soundness of rows by the tests of one row and of two rows.
-use Prim.Native.Nat.{ℕ, zero, suc, _-_, _≤_, _<_}
-use native.Mathlib.Omega.{arith}
+use Prim.Native.Nat.{ℕ}
 use mathlib.Core.Path.{_≡_, refl, sym, ap, _∙_}
 use mathlib.Core.Bool.{Bool, true, false, _&&_, not}
 use mathlib.Core.List.{List, List·Memᴰ}
 use mathlib.Core.Option.{Option, none, some}
 use lib.Dec.{eqb, leb}
 use lib.IntN.{ℤ}
-use lib.ListN.{length, getD, take}
-use lib.Seq.{take-suc, take-length}
+use lib.ListN.{length}
 use Rattle.octets.specs.Lists.{any, all, keep, distinct}
 use Rattle.octets.specs.Tests.{has, noneOr, hasBoth}
 use Rattle.octets.proofs.Lists.{any-of, keep-ext, same-tests, true-not-false}
-use Rattle.octets.proofs.Loops.{all-pick, any-pick, distinct-pick, all-and, any-and, all-same, distinct-or, pick-skip, length-pick, length-keep-pick}
+use Rattle.octets.proofs.Loops.{all-pick, any-pick, distinct-pick, all-and, any-and, all-same, distinct-or, length-pick, length-keep-pick}
 use Rattle.board.specs.declared.Call.{Call}
 use Rattle.board.specs.declared.Standing.{Standing}
 use Rattle.board.specs.declared.Standing.the-variants.{Empty, Served, Joined}
@@ -134,7 +132,7 @@ paired-all rows =
     all-same (λ (a : Row). any (paired a) rows) (λ (a : Row). noneOr (partnered (taken rows)) (rowEntry a)) rows (λ r m. one-paired rows r (rowEntry r) m)
     ∙ sym (all-pick rowEntry (partnered (taken rows)) rows)
 
--- ---- the whole, read off the first n rows where no other row is taken
+-- ---- the whole
 
 and-four : (a b c d e f g : Bool) → (a && (b && (c && (d && (e && (f && g)))))) ≡ (a && b && (c && (d && e) && (f && g)))
 and-four true true true d e f g = and-three d e (f && g)
@@ -146,13 +144,11 @@ and-four true true false d e f g = refl
 and-four true false c d e f g = refl
 and-four false b c d e f g = refl
 
-pub sound-by-rows : (rows : List Row) (n : ℕ) → taken (take n rows) ≡ taken rows →
+pub sound-by-rows : (rows : List Row) →
     soundRows rows
-    ≡ (all fits rows
-    && (distinct clash (take n rows)
-    && (leb (linkIds (taken rows)) 16 && all (λ (a : Row). any (paired a) (take n rows)) (take n rows))))
+    ≡ (all fits rows && (distinct clash rows && (leb (linkIds (taken rows)) 16 && all (λ (a : Row). any (paired a) rows) rows)))
 unfolding soundRows soundEntries
-sound-by-rows rows n e = rw (fits-all rows, clash-all (take n rows), paired-all (take n rows), e) (and-four
+sound-by-rows rows = rw (fits-all rows, clash-all rows, paired-all rows) (and-four
     (all validRow rows)
     (all validEntry (taken rows))
     (distinct sameLegs (taken rows))
@@ -162,18 +158,7 @@ sound-by-rows rows n e = rw (fits-all rows, clash-all (take n rows), paired-all 
     (all (partnered (taken rows)) (taken rows)))
 
 pub unfit-rows : (rows : List Row) → all fits rows ≡ false → soundRows rows ≡ false
-unfit-rows rows e = rw (sound-by-rows rows (length rows) (ap taken (take-length rows)), e)
-
-sub-one : (m : ℕ) → suc m - 1 ≡ m
-sub-one m = omega arith
-
--- an empty row at the end does not matter
-pub taken-less : (rows : List Row) (n : ℕ) (d : Row) → 0 < n → n ≤ length rows → occupied (getD rows (n - 1) d .standing) ≡ false → taken (take (n - 1) rows) ≡ taken (take n rows)
-taken-less rows zero d h l e = absurd (omega arith)
-taken-less rows (suc m) d h l e =
-    simp sub-one
-    (sym (pick-skip rowEntry (take m rows) (getD rows m d) (ap (entryOf (getD rows m d .leg)) (empty-standing (getD rows m d .standing) (simp sub-one at e))))
-    ∙ ap taken (sym (take-suc rows m d (omega arith))))
+unfit-rows rows e = rw (sound-by-rows rows, e)
 
 -- ---- counts
 

@@ -29,7 +29,7 @@ pub struct Survey {
     pub empty: bool,
 }
 
-fn is_occupied(standing: Standing) -> bool
+pub fn is_occupied(standing: Standing) -> bool
     ensures { λ r. ⌜ r ≡ occupied standing ⌝ }
 {
     match standing {

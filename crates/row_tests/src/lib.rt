@@ -1,15 +1,10 @@
 // The tests of one row and of two rows that soundness is made of, and what a row adds to the counts.
 ghost use mathlib.Core.Path.{_≡_};
-ghost use mathlib.Core.Bool.{_&&_};
-ghost use Prim.Native.Nat.{ℕ, _≤_};
-ghost use lib.Dec.{leb};
-ghost use lib.ListN.{take, drop};
-ghost use Rattle.octets.specs.Lists.{all};
 ghost use Rattle.octets.specs.Tests.{has, noneOr, hasBoth};
 ghost use Rattle.octets.specs.Numbers.{sameLinkId};
 ghost use Rattle.board.specs.States.{sameAuxiliary, validDirection, holdable, validCall};
 ghost use Rattle.board.specs.Entries.{rowEntry, linkIdIn};
-ghost use Rattle.board.specs.Soundness.{zeros, validDigits, validParty, validStanding, validEntry, sameLinkIdsIn, answersTo};
+ghost use Rattle.board.specs.Soundness.{validDigits, validParty, validStanding, validEntry, sameLinkIdsIn, answersTo};
 ghost use Rattle.board.specs.RowTests.{fits, sharing, callsShare, clash, paired, takenRow};
 ghost use Rattle.board.specs.Tallies.{rowTally};
 use board::AuxiliaryState;
@@ -20,6 +15,7 @@ use board::OptionalLinkId;
 use board::Row;
 use board::Standing;
 use board::Tally;
+use board::finding::is_occupied;
 use octets::LinkId;
 
 fn direction_valid(state: CallState, direction: Direction) -> bool
@@ -85,57 +81,21 @@ fn call_valid(call: Call) -> bool
     is_holdable(state)
 }
 
-fn leads_with_digits(n: usize, digits: [u8; 15]) -> bool
-    requires { ⌜ n ≤ 15 ⌝ }
-    ensures { λ r. ⌜ r ≡ all (λ (d : ℕ). leb 48 d && leb d 57) (take n digits) ⌝ }
-{
-    for k in 0..n {
-        let d = digits[k];
-        if d < 48 {
-            return false;
-        }
-        if 57 < d {
-            return false;
-        }
-    }
-    true
-}
-
-fn ends_with_zeros(n: usize, digits: [u8; 15]) -> bool
-    requires { ⌜ n ≤ 15 ⌝ }
-    ensures { λ r. ⌜ r ≡ zeros (drop n digits) ⌝ }
-{
-    for k in n..15 {
-        if digits[k] == 0 {} else {
-            return false;
-        }
-    }
-    true
-}
-
-// Its bounds are constants, so that it compiles to a few instructions: most rows are empty.
-fn no_digits(digits: [u8; 15]) -> bool
-    ensures { λ r. ⌜ r ≡ zeros digits ⌝ }
-{
-    for k in 0..15 {
-        if digits[k] == 0 {} else {
-            return false;
-        }
-    }
-    true
-}
-
+// That many digits, and then zeros. The loop has constant bounds and no way out of it, so that it compiles to few
+// instructions.
 fn digits_valid(count: u8, digits: [u8; 15]) -> bool
     ensures { λ r. ⌜ r ≡ validDigits count digits ⌝ }
 {
     if 15 < count {
         return false;
     }
-    let n = count as usize;
-    if leads_with_digits(n, digits) {} else {
-        return false;
+    let mut valid = true;
+    for k in 0..15 {
+        let d = digits[k];
+        let within = (k as u8) < count;
+        valid = valid & ((within & ((48 <= d) & (d <= 57))) | (!within & (d == 0)));
     }
-    ends_with_zeros(n, digits)
+    valid
 }
 
 fn empty_fits(row: Row) -> bool
@@ -151,7 +111,7 @@ fn empty_fits(row: Row) -> bool
     if row.count == 0 {} else {
         return false;
     }
-    no_digits(digits)
+    digits_valid(0, digits)
 }
 
 fn party_fits(row: Row) -> bool
@@ -168,11 +128,7 @@ pub fn is_taken(row: Row) -> bool
     ensures { λ r. ⌜ r ≡ takenRow row ⌝ }
 {
     let standing = row.standing;
-    match standing {
-        Standing::Empty => false,
-        Standing::Served(_) => true,
-        Standing::Joined { .. } => true,
-    }
+    is_occupied(standing)
 }
 
 fn call_fits(row: Row) -> bool

@@ -5,13 +5,11 @@ use mathlib.Core.Bool.{Bool, true, false, _&&_, not, cond, and-true}
 use mathlib.Core.List.{List}
 use lib.Dec.{leb}
 use lib.ListN.{length, getD, drop}
-use lib.Seq.{take-length}
 use Rattle.octets.specs.Lists.{any, all, distinct}
 use Rattle.octets.proofs.Loops.{Step, Counting, step-at, past-end, count-start, count-step, count-end}
 use Rattle.board.specs.declared.Row.{Row}
 use Rattle.board.specs.declared.Counted.the-variants.{Counts, Unsound}
 use Rattle.board.specs.declared.Tally.{Tally}
-use Rattle.board.specs.Entries.{taken}
 use Rattle.board.specs.Soundness.{soundRows}
 use Rattle.board.specs.Counts.{counts, legs, pairs, links}
 use Rattle.board.specs.Tallies.{tallyOf}
@@ -89,4 +87,4 @@ module _ (ys : List Row) where
           (ap (λ (u : Tally). record { sound = obeying ys ys; legs = u .legs; joined = u .joined; links = u .links }) (sym (tally-all ys)))
 
       sound-is : soundRows ys ≡ (leb (links ys) 16 && obeying ys ys)
-      sound-is = rw (take-length ys) at (sound-by-rows ys (length ys) (ap taken (take-length ys))) ∙ fewest-first (all fits ys) (distinct clash ys) (leb (links ys) 16) (all (λ (a : Row). any (paired a) ys) ys)
+      sound-is = sound-by-rows ys ∙ fewest-first (all fits ys) (distinct clash ys) (leb (links ys) 16) (all (λ (a : Row). any (paired a) ys) ys)

@@ -1,78 +1,220 @@
 // Soundness of a board and of rows, and the counts.
-// An array of rows that is handed to a function is copied, so what tests each row against the others is one function.
+// An array of rows that is handed to a function is copied, so the rows are walked once, and what has to be compared
+// is gathered in columns of numbers: the legs, the references, the LinkIds, and of joined rows the leg, its partner
+// and whether it alerts. The columns are lent.
 ghost use mathlib.Core.Path.{_≡_};
-ghost use Prim.Native.Nat.{_≤_};
-ghost use lib.ListN.{take};
-ghost use Rattle.octets.specs.Lists.{any, all, distinct};
-ghost use Rattle.board.specs.Entries.{taken};
-ghost use Rattle.board.specs.Soundness.{soundRows, sound as soundBoard};
-ghost use Rattle.board.specs.RowTests.{fits, clash, paired};
+ghost use Prim.Native.Nat.{_≤_, _<_};
+ghost use lib.Dec.{eqb};
+ghost use lib.ListN.{length, getD, take, drop};
+ghost use Rattle.octets.specs.Lists.{any, distinct};
+ghost use Rattle.board.specs.Soundness.{answersTo, soundRows, sound as soundBoard};
 ghost use Rattle.board.specs.Counts.{counts};
 ghost use Rattle.board.specs.Tallies.{tallyOf};
+ghost use Rattle.soundness.specs.Columns.{linkNumber, callKey, keyOf, joint, joints, allPartnered};
 use board::Board;
+use board::Call;
 use board::Counted;
+use board::OptionalLinkId;
 use board::Row;
+use board::Standing;
 use board::Tally;
+use octets::LinkId;
 use row_tests::is_taken;
 use row_tests::row_fits;
 use row_tests::row_tally;
-use row_tests::rows_clash;
-use row_tests::rows_paired;
 
-fn rows_fit(rows: [Row; 64]) -> bool
-    ensures { λ r. ⌜ r ≡ all fits rows ⌝ }
-{
-    for i in 0..64 {
-        if row_fits(rows[i]) {} else {
-            return false;
-        }
-    }
-    true
+// What the standing of a row puts into the columns; `served`, `linked` and `joined` are 1 where it puts something
+// there, else 0.
+struct Key {
+    served: usize,
+    reference: u32,
+    linked: usize,
+    link: u32,
+    joined: usize,
+    partner: u32,
+    alerting: u32,
 }
 
-// A number of rows from the first on with all taken rows among them: rows are taken from the lowest place.
-fn used(rows: [Row; 64]) -> usize
-    ensures { λ r. ⌜ (r ≤ 64) × (taken (take r rows) ≡ taken rows) ⌝ }
-{
-    let mut n: usize = 64;
-    while 0 < n {
-        if is_taken(rows[n - 1]) {
-            return n;
-        }
-        n -= 1;
-    }
-    n
+// A joined leg, its partner, and 1 where it alerts.
+struct Joint {
+    leg: u32,
+    partner: u32,
+    alerting: u32,
 }
 
-fn rows_distinct(rows: [Row; 64], n: usize) -> bool
-    requires { ⌜ n ≤ 64 ⌝ }
-    ensures { λ r. ⌜ r ≡ distinct clash (take n rows) ⌝ }
+// A number for each LinkId: those from 0 on are even, and the negative ones are odd.
+fn link_number(link: LinkId) -> u32
+    ensures { λ r. ⌜ r ≡ linkNumber (link .0) ⌝ }
 {
-    for i in 0..n {
-        let a = rows[i];
-        for j in i + 1..n {
-            if rows_clash(a, rows[j]) {
+    let n = link.to_bits();
+    if n < 32768 {
+        (n as u32) * 2
+    } else {
+        ((65535 - n) as u32) * 2 + 1
+    }
+}
+
+fn call_key(call: Call) -> Key
+    ensures { λ r. ⌜ r ≡ callKey (call .reference .0) (call .link) ⌝ }
+{
+    let reference = call.reference.0 as u32;
+    let link = call.link;
+    match link {
+        OptionalLinkId::Absent => Key {
+            served: 1,
+            reference,
+            linked: 0,
+            link: 0,
+            joined: 0,
+            partner: 0,
+            alerting: 0,
+        },
+        OptionalLinkId::Present(l) => {
+            let number = link_number(l);
+            Key {
+                served: 1,
+                reference,
+                linked: 1,
+                link: number,
+                joined: 0,
+                partner: 0,
+                alerting: 0,
+            }
+        }
+    }
+}
+
+fn row_key(row: Row) -> Key
+    ensures { λ r. ⌜ r ≡ keyOf (row .standing) ⌝ }
+{
+    let standing = row.standing;
+    match standing {
+        Standing::Empty => Key {
+            served: 0,
+            reference: 0,
+            linked: 0,
+            link: 0,
+            joined: 0,
+            partner: 0,
+            alerting: 0,
+        },
+        Standing::Served(call) => call_key(call),
+        Standing::Joined { partner, alerting } => Key {
+            served: 0,
+            reference: 0,
+            linked: 0,
+            link: 0,
+            joined: 1,
+            partner,
+            alerting: alerting as u32,
+        },
+    }
+}
+
+// Whether a number stands in a column from a place on, before place n.
+fn is_later(number: u32, column: &[u32], from: usize, n: usize) -> bool
+    requires { ⌜ (from ≤ n) × (n ≤ length (now column)) ⌝ }
+    ensures { λ r. ⌜ r ≡ any (eqb number) (drop from (take n (now (column .entry)))) ⌝ }
+{
+    for i in from..n {
+        if number == column[i] {
+            return true;
+        }
+    }
+    false
+}
+
+// Whether the first n numbers of a column are distinct. From the last on the low octet of each is marked, and those
+// behind a number are looked through only where its low octet is marked already.
+fn all_differ(column: &[u32], n: usize) -> bool
+    requires { ⌜ n ≤ length (now column) ⌝ }
+    ensures { λ r. ⌜ r ≡ distinct eqb (take n (now (column .entry))) ⌝ }
+{
+    let mut marks: [u8; 256] = [0; 256];
+    let mut i = n;
+    while 0 < i {
+        i -= 1;
+        let number = column[i];
+        let low = (number % 256) as usize;
+        if marks[low] == 1 {
+            if is_later(number, column, i + 1, n) {
                 return false;
             }
         }
+        marks[low] = 1;
     }
     true
 }
 
-fn all_paired(rows: [Row; 64], n: usize) -> bool
-    requires { ⌜ n ≤ 64 ⌝ }
-    ensures { λ r. ⌜ r ≡ all (λ (a : Row). any (paired a) (take n rows)) (take n rows) ⌝ }
+// For each low octet of a leg a place where one with that octet stands. It says only where to look first.
+fn places(legs: &[u32], n: usize) -> [u8; 256]
+    requires { ⌜ (n ≤ 256) × (n ≤ length (now legs)) ⌝ }
 {
+    let mut places: [u8; 256] = [0; 256];
     for i in 0..n {
-        let a = rows[i];
-        let mut j: usize = 0;
-        while j < n {
-            if rows_paired(a, rows[j]) {
-                break;
-            }
-            j += 1;
+        let low = (legs[i] % 256) as usize;
+        places[low] = i as u8;
+    }
+    places
+}
+
+fn joint_at(legs: &[u32], partners: &[u32], alerting: &[u32], i: usize) -> Joint
+    requires { ⌜ (i < length (now legs)) × (i < length (now partners)) × (i < length (now alerting)) ⌝ }
+    ensures { λ r. ⌜ r ≡ record { leg = getD (now (legs .entry)) i 0; partner = getD (now (partners .entry)) i 0; alerting = getD (now (alerting .entry)) i 0 } ⌝ }
+{
+    Joint {
+        leg: legs[i],
+        partner: partners[i],
+        alerting: alerting[i],
+    }
+}
+
+// Whether `b` is the partner of `a` and is joined back to it, not both alerting.
+fn answers(a: Joint, b: Joint) -> bool
+    ensures { λ r. ⌜ r ≡ answersTo (a .leg) (a .partner) (eqb (a .alerting) 1) (joint (b .leg) (b .partner) (b .alerting)) ⌝ }
+{
+    (a.partner == b.leg) & ((a.leg == b.partner) & !((a.alerting == 1) & (b.alerting == 1)))
+}
+
+// Whether one of the first n joined legs answers to `a`; place `first` is tried before the others.
+fn is_answered(
+    a: Joint,
+    first: usize,
+    legs: &[u32],
+    partners: &[u32],
+    alerting: &[u32],
+    n: usize,
+) -> bool
+    requires { ⌜ (n ≤ length (now legs)) × (n ≤ length (now partners)) × (n ≤ length (now alerting)) ⌝ }
+    ensures { λ r. ⌜ r ≡ any (answersTo (a .leg) (a .partner) (eqb (a .alerting) 1)) (joints (take n (now (legs .entry))) (take n (now (partners .entry))) (take n (now (alerting .entry)))) ⌝ }
+{
+    if first < n {
+        if answers(a, joint_at(legs, partners, alerting, first)) {
+            return true;
         }
-        if j == n {
+    }
+    for i in 0..n {
+        if answers(a, joint_at(legs, partners, alerting, i)) {
+            return true;
+        }
+    }
+    false
+}
+
+// Whether each of the first n joined legs has another as its partner that is joined back to it, not both alerting.
+fn all_joined_back(legs: &[u32], partners: &[u32], alerting: &[u32], n: usize) -> bool
+    requires { ⌜ (n ≤ 64) × (n ≤ length (now legs)) × (n ≤ length (now partners)) × (n ≤ length (now alerting)) ⌝ }
+    ensures { λ r. ⌜ r ≡ allPartnered (joints (take n (now (legs .entry))) (take n (now (partners .entry))) (take n (now (alerting .entry)))) ⌝ }
+{
+    let places = places(legs, n);
+    for i in 0..n {
+        let a = joint_at(legs, partners, alerting, i);
+        if a.leg == a.partner {
+            return false;
+        }
+        let low = (a.partner % 256) as usize;
+        let first = places[low] as usize;
+        if is_answered(a, first, legs, partners, alerting, n) {} else {
             return false;
         }
     }
@@ -101,18 +243,48 @@ pub fn add_up(rows: [Row; 64]) -> Tally
 pub fn sound_rows(rows: [Row; 64]) -> bool
     ensures { λ r. ⌜ r ≡ soundRows rows ⌝ }
 {
-    if rows_fit(rows) {} else {
+    let mut legs: [u32; 64] = [0; 64];
+    let mut references: [u32; 64] = [0; 64];
+    let mut links: [u32; 64] = [0; 64];
+    let mut own: [u32; 64] = [0; 64];
+    let mut partners: [u32; 64] = [0; 64];
+    let mut alerting: [u32; 64] = [0; 64];
+    let mut taken: usize = 0;
+    let mut served: usize = 0;
+    let mut linked: usize = 0;
+    let mut joined: usize = 0;
+    for i in 0..64 {
+        let row = rows[i];
+        if row_fits(row) {} else {
+            return false;
+        }
+        if is_taken(row) {
+            let key = row_key(row);
+            legs[taken] = row.leg;
+            references[served] = key.reference;
+            links[linked] = key.link;
+            own[joined] = row.leg;
+            partners[joined] = key.partner;
+            alerting[joined] = key.alerting;
+            taken += 1;
+            served += key.served;
+            linked += key.linked;
+            joined += key.joined;
+        }
+    }
+    if all_differ(&legs, taken) {} else {
         return false;
     }
-    let n = used(rows);
-    if rows_distinct(rows, n) {} else {
+    if all_differ(&references, served) {} else {
         return false;
     }
-    let t = add_up(rows);
-    if 16 < t.links {
+    if all_differ(&links, linked) {} else {
         return false;
     }
-    all_paired(rows, n)
+    if 16 < linked {
+        return false;
+    }
+    all_joined_back(&own, &partners, &alerting, joined)
 }
 
 pub fn sound(board: Board) -> bool

@@ -1,12 +1,7 @@
 use borrow.Author.Needs.{needs}
 use Rattle.row_tests.proofs.empty_fits.Statement.{statement}
 use Rattle.row_tests.proofs.empty_fits.Tie as tie
-use mathlib.Core.Path.{_≡_}
-use lib.ListN.{length}
 use borrow.Author.Tests.{eq-eqb, ne-eqb}
-
-long : (c : tie.Start) → length (c .args .row .digits) ≡ 15
-long c = search needs
 
 returns : tie.Need-returns
 returns c = simp (ne-eqb _ _ (c .if1 .left))
@@ -17,11 +12,11 @@ returns-2 c = simp (eq-eqb _ _ (c .before .before .if1 .taken), ne-eqb _ _ (c .i
 returns-3 : tie.Need-returns-3
 returns-3 c = simp (eq-eqb _ _ (c .before .before .before .before .if1 .taken), eq-eqb _ _ (c .before .before .if2 .taken), ne-eqb _ _ (c .if3 .left))
 
-no-digits-requires : tie.Need-no-digits-requires
-no-digits-requires c κs = search needs
+digits-valid-requires : tie.Need-digits-valid-requires
+digits-valid-requires c κs = search needs
 
 returns-4 : tie.Need-returns-4
-returns-4 c = simp (eq-eqb _ _ (c .before .before .before .before .before .if1 .taken), eq-eqb _ _ (c .before .before .before .if2 .taken), eq-eqb _ _ (c .before .if3 .taken), eq-eqb _ _ (long (c .before .before .before .before .before .before .before .before))) (c .no-digits .ensures)
+returns-4 c = simp (eq-eqb _ _ (c .before .before .before .before .before .if1 .taken), eq-eqb _ _ (c .before .before .before .if2 .taken), eq-eqb _ _ (c .before .if3 .taken)) (c .digits-valid .ensures)
 
 pub empty-fits-spec : {M : Type 1} → statement M
-empty-fits-spec = tie.close (tie.spec returns returns-2 returns-3 no-digits-requires returns-4)
+empty-fits-spec = tie.close (tie.spec returns returns-2 returns-3 digits-valid-requires returns-4)

@@ -1,0 +1,140 @@
+-- Soundness of rows by the columns that they are read into.
+use Prim.Native.Nat.{ℕ, _*_, _+_}
+use native.Mathlib.Omega.{arith}
+use mathlib.Core.Path.{_≡_, refl, sym, ap, _∙_}
+use mathlib.Core.Bool.{Bool, true, false, _&&_, _||_, not, and-false, and-assoc}
+use mathlib.Core.List.{List, [], _∷_}
+use mathlib.Core.Option.{Option, none, some, Option·map}
+use lib.Dec.{eqb, leb}
+use lib.IntN.{ℤ, pos, negsuc}
+use lib.ListN.{length}
+use borrow.Author.Tests.{ne-eqb}
+use Rattle.octets.specs.Lists.{any, all, consIf, keep, distinct, consOpt, pick}
+use Rattle.octets.specs.Tests.{has, hasBoth, bit}
+use Rattle.octets.specs.Numbers.{sameLinkId}
+use Rattle.octets.proofs.Lists.{true-not-false, same-tests, eqb-eq, eqb-of, keep-ext, all-ext}
+use Rattle.octets.proofs.Loops.{distinct-pick, distinct-ext, length-pick}
+use Rattle.board.specs.declared.Connection.{Connection}
+use Rattle.board.specs.declared.Connection.the-variants.{WithUser, WithPartner}
+use Rattle.board.specs.declared.Row.{Row}
+use Rattle.board.specs.declared.Entry.{Entry}
+use Rattle.board.specs.Entries.{entry, taken, linkIdOf, linked, present, isJoined, linkIds}
+use Rattle.board.specs.Soundness.{validRow, validEntry, sameNumbers, sameReferences, sameLinkIdsIn, sameLinkIds, answersTo, validPartner, partnered, soundEntries, soundRows}
+use Rattle.board.specs.RowTests.{fits}
+use Rattle.board.proofs.Rows.{fits-all}
+use Rattle.soundness.specs.Columns.{linkNumber, legIn, referenceIn, linkIn, joinedLeg, ownIn, partnerOf, partnerIn, alertingOf, alertingIn, joints, allPartnered}
+
+-- ---- distinctness
+
+same-number : (y z : ℤ) → sameLinkId y z ≡ eqb (linkNumber y) (linkNumber z)
+same-number (pos m) (pos n) = same-tests (λ t. eqb-of (m * 2) (n * 2) (ap (λ (k : ℕ). k * 2) (eqb-eq m n t))) (λ t. let e = eqb-eq (m * 2) (n * 2) t in eqb-of m n (omega arith))
+same-number (pos m) (negsuc n) = sym (ne-eqb (m * 2) (n * 2 + 1) (λ e. omega arith))
+same-number (negsuc m) (pos n) = sym (ne-eqb (m * 2 + 1) (n * 2) (λ e. omega arith))
+same-number (negsuc m) (negsuc n) = same-tests (λ t. eqb-of (m * 2 + 1) (n * 2 + 1) (ap (λ (k : ℕ). k * 2 + 1) (eqb-eq m n t))) (λ t. let e = eqb-eq (m * 2 + 1) (n * 2 + 1) t in eqb-of m n (omega arith))
+
+both-numbers : (o p : Option ℕ) → sameNumbers o p ≡ hasBoth eqb o p
+both-numbers none p = refl
+both-numbers (some m) none = refl
+both-numbers (some m) (some n) = refl
+
+both-links : (o p : Option ℤ) → sameLinkIdsIn o p ≡ hasBoth eqb (Option·map linkNumber o) (Option·map linkNumber p)
+both-links none p = refl
+both-links (some y) none = refl
+both-links (some y) (some z) = same-number y z
+
+references-distinct : (es : List Entry) → distinct sameReferences es ≡ distinct eqb (pick referenceIn es)
+references-distinct es =
+    distinct-ext sameReferences (λ (e f : Entry). hasBoth eqb (referenceIn e) (referenceIn f)) es (λ e f. both-numbers (referenceIn e) (referenceIn f))
+    ∙ sym (distinct-pick referenceIn eqb es)
+
+links-distinct : (es : List Entry) → distinct sameLinkIds es ≡ distinct eqb (pick linkIn es)
+links-distinct es =
+    distinct-ext sameLinkIds (λ (e f : Entry). hasBoth eqb (linkIn e) (linkIn f)) es (λ e f. both-links (linkIdOf (e .connection)) (linkIdOf (f .connection)))
+    ∙ sym (distinct-pick linkIn eqb es)
+
+-- ---- the number of LinkIds
+
+has-number : (o : Option ℤ) → present o ≡ has (λ (n : ℕ). true) (Option·map linkNumber o)
+has-number none = refl
+has-number (some z) = refl
+
+links-counted : (es : List Entry) → linkIds es ≡ length (pick linkIn es)
+links-counted es =
+    ap (λ (l : List Entry). length l) (keep-ext linked (λ (e : Entry). has (λ (n : ℕ). true) (linkIn e)) es (λ e. has-number (linkIdOf (e .connection))))
+    ∙ sym (length-pick linkIn es)
+
+-- ---- partners: only joined rows have one, and are one
+
+abbrev joined : Entry → Bool
+joined e = isJoined (e .connection)
+
+bit-one : (b : Bool) → eqb (bit b) 1 ≡ b
+bit-one true = refl
+bit-one false = refl
+
+joints-taken : (es : List Entry) → joints (pick ownIn es) (pick partnerIn es) (pick alertingIn es) ≡ keep joined es
+unfolding joints
+joints-taken [] = refl
+joints-taken (e ∷ es) = go (e .leg) (e .connection) (joints-taken es)
+  where
+    go : (n : ℕ) (k : Connection) → joints (pick ownIn es) (pick partnerIn es) (pick alertingIn es) ≡ keep joined es →
+        joints (consOpt (joinedLeg n k) (pick ownIn es)) (consOpt (partnerOf k) (pick partnerIn es)) (consOpt (alertingOf k) (pick alertingIn es)) ≡ consIf (isJoined k) (entry n k) (keep joined es)
+    go n (WithUser c) h = h
+    go n (WithPartner p a) h = rw (bit-one a, h)
+
+module _ {A : Type 0} (q : A → Bool) where
+  any-keep : (p : A → Bool) (l : List A) → ((x : A) → q x ≡ false → p x ≡ false) → any p l ≡ any p (keep q l)
+  any-keep p [] f = refl
+  any-keep p (x ∷ l) f = go (q x) (f x) (any-keep p l f)
+    where
+      go : (b : Bool) → (b ≡ false → p x ≡ false) → any p l ≡ any p (keep q l) → (p x || any p l) ≡ any p (consIf b x (keep q l))
+      go true g h = ap (λ (c : Bool). p x || c) h
+      go false g h = rw (g refl) h
+
+  all-keep : (p : A → Bool) (l : List A) → ((x : A) → q x ≡ false → p x ≡ true) → all p l ≡ all p (keep q l)
+  all-keep p [] f = refl
+  all-keep p (x ∷ l) f = go (q x) (f x) (all-keep p l f)
+    where
+      go : (b : Bool) → (b ≡ false → p x ≡ true) → all p l ≡ all p (keep q l) → (p x && all p l) ≡ all p (consIf b x (keep q l))
+      go true g h = ap (λ (c : Bool). p x && c) h
+      go false g h = rw (g refl) h
+
+partners-joined : (es : List Entry) → all (partnered es) es ≡ allPartnered (keep joined es)
+partners-joined es =
+    all-ext (partnered es) (partnered (keep joined es)) es (λ e. one (e .leg) (e .connection))
+    ∙ all-keep joined (partnered (keep joined es)) es (λ e u. calm (e .leg) (e .connection) u)
+  where
+    mute : (n p : ℕ) (a : Bool) (m : ℕ) (k : Connection) → isJoined k ≡ false → answersTo n p a (entry m k) ≡ false
+    mute n p a m (WithUser c) u = and-false (eqb p m)
+    mute n p a m (WithPartner q b) u = absurd (true-not-false refl u)
+
+    one : (n : ℕ) (k : Connection) → validPartner es n k ≡ validPartner (keep joined es) n k
+    one n (WithUser c) = refl
+    one n (WithPartner p a) = ap (λ (b : Bool). not (eqb n p) && b) (any-keep joined (answersTo n p a) es (λ f u. mute n p a (f .leg) (f .connection) u))
+
+    calm : (n : ℕ) (k : Connection) → isJoined k ≡ false → validPartner (keep joined es) n k ≡ true
+    calm n (WithUser c) u = refl
+    calm n (WithPartner p a) u = absurd (true-not-false refl u)
+
+-- ---- the whole
+
+pub sound-by-columns : (rows : List Row) →
+    soundRows rows
+    ≡ (all fits rows
+    && (distinct eqb (pick legIn (taken rows))
+    && (distinct eqb (pick referenceIn (taken rows))
+    && (distinct eqb (pick linkIn (taken rows))
+    && (leb (length (pick linkIn (taken rows))) 16
+    && allPartnered (joints (pick ownIn (taken rows)) (pick partnerIn (taken rows)) (pick alertingIn (taken rows))))))))
+unfolding soundRows soundEntries
+sound-by-columns rows =
+    rw (
+      fits-all rows,
+      distinct-pick legIn eqb (taken rows),
+      ← references-distinct (taken rows),
+      ← links-distinct (taken rows),
+      ← links-counted (taken rows),
+      joints-taken (taken rows),
+      ← partners-joined (taken rows),
+    )
+    (sym (and-assoc (all validRow rows) (all validEntry (taken rows)) _))

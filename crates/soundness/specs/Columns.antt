@@ -1,0 +1,82 @@
+-- Columns of numbers that the rows not empty are read into, to be tested for soundness (document 01, "The board").
+use Prim.Native.Nat.{ℕ, _+_, _*_}
+use mathlib.Core.Bool.{Bool}
+use mathlib.Core.List.{List, [], _∷_}
+use mathlib.Core.Option.{Option, none, some, Option·map}
+use lib.Dec.{eqb}
+use lib.IntN.{ℤ, pos, negsuc}
+use Rattle.octets.specs.Lists.{all}
+use Rattle.octets.specs.Tests.{bit}
+use Rattle.board.specs.declared.OptionalLinkId.{OptionalLinkId}
+use Rattle.board.specs.declared.OptionalLinkId.the-variants.{Absent, Present}
+use Rattle.board.specs.declared.Standing.{Standing}
+use Rattle.board.specs.declared.Standing.the-variants.{Empty, Served, Joined}
+use Rattle.board.specs.declared.Connection.{Connection}
+use Rattle.board.specs.declared.Connection.the-variants.{WithUser, WithPartner}
+use Rattle.board.specs.declared.Entry.{Entry}
+use Rattle.board.specs.Entries.{referenceOf, linkIdOf}
+use Rattle.board.specs.Soundness.{partnered}
+use Rattle.soundness.specs.declared.Key.{Key}
+
+-- a number for each LinkId, and two LinkIds with one number are the same
+abbrev pub linkNumber : ℤ → ℕ
+linkNumber (pos n) = n * 2
+linkNumber (negsuc n) = n * 2 + 1
+
+-- ---- what an entry puts into each column
+
+abbrev pub legIn : Entry → Option ℕ
+legIn e = some (e .leg)
+
+abbrev pub referenceIn : Entry → Option ℕ
+referenceIn e = referenceOf (e .connection)
+
+abbrev pub linkIn : Entry → Option ℕ
+linkIn e = Option·map linkNumber (linkIdOf (e .connection))
+
+abbrev pub joinedLeg : ℕ → Connection → Option ℕ
+joinedLeg n (WithUser c) = none
+joinedLeg n (WithPartner p a) = some n
+
+abbrev pub ownIn : Entry → Option ℕ
+ownIn e = joinedLeg (e .leg) (e .connection)
+
+abbrev pub partnerOf : Connection → Option ℕ
+partnerOf (WithUser c) = none
+partnerOf (WithPartner p a) = some p
+
+abbrev pub partnerIn : Entry → Option ℕ
+partnerIn e = partnerOf (e .connection)
+
+abbrev pub alertingOf : Connection → Option ℕ
+alertingOf (WithUser c) = none
+alertingOf (WithPartner p a) = some (bit a)
+
+abbrev pub alertingIn : Entry → Option ℕ
+alertingIn e = alertingOf (e .connection)
+
+-- ---- the same of a standing, all in one
+
+abbrev pub callKey : ℕ → OptionalLinkId → Key
+callKey n Absent = record { served = 1; reference = n; linked = 0; link = 0; joined = 0; partner = 0; alerting = 0 }
+callKey n (Present l) = record { served = 1; reference = n; linked = 1; link = linkNumber (l .0); joined = 0; partner = 0; alerting = 0 }
+
+unfoldable pub keyOf : Standing → Key
+keyOf Empty = record { served = 0; reference = 0; linked = 0; link = 0; joined = 0; partner = 0; alerting = 0 }
+keyOf (Served c) = callKey (c .reference .0) (c .link)
+keyOf (Joined p a) = record { served = 0; reference = 0; linked = 0; link = 0; joined = 1; partner = p; alerting = bit a }
+
+-- ---- the entries of joined rows, out of three columns
+
+abbrev pub joint : ℕ → ℕ → ℕ → Entry
+joint n p a = record { leg = n; connection = WithPartner p (eqb a 1) }
+
+unfoldable pub joints : List ℕ → List ℕ → List ℕ → List Entry
+joints [] ps bs = []
+joints (n ∷ ns) [] bs = []
+joints (n ∷ ns) (p ∷ ps) [] = []
+joints (n ∷ ns) (p ∷ ps) (b ∷ bs) = joint n p b ∷ joints ns ps bs
+
+-- "each joined row's partner is another row joined to it, not both alerting"
+abbrev pub allPartnered : List Entry → Bool
+allPartnered es = all (partnered es) es
