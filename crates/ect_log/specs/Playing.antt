@@ -60,7 +60,9 @@ pub data Reads : Board → ℕ → List ℕ → List ℕ → Board → ℕ → T
   ended : (b : Board) (n : ℕ) → Reads b n [] [] b n
   stopped : (order : DropOrder) (b : Board) (n : ℕ) (o : ℕ) (os : List ℕ)
       → stopsReading (step order b (frontRecord (o ∷ os)) 128 .returned) ≡ true
-      → Reads b n (o ∷ os) (outcomeLine (n + 1) (frontRecord (o ∷ os)) (step order b (frontRecord (o ∷ os)) 128)) (step order b (frontRecord (o ∷ os)) 128 .board) (n + 1)
+      → Reads b n (o ∷ os)
+      (outcomeLine (n + 1) (frontRecord (o ∷ os)) (step order b (frontRecord (o ∷ os)) 128))
+      (step order b (frontRecord (o ∷ os)) 128 .board) (n + 1)
   next : (order : DropOrder) (b : Board) (n : ℕ) (o : ℕ) (os text : List ℕ) (c : Board) (m : ℕ)
       → stopsReading (step order b (frontRecord (o ∷ os)) 128 .returned) ≡ false
       → Reads (step order b (frontRecord (o ∷ os)) 128 .board) (n + 1) (behind (o ∷ os)) text c m
@@ -90,4 +92,5 @@ pub record Plays (b : Board) (n : ℕ) (piece : List ℕ) (last : Bool) (before 
   pub read : r .read ≤ length piece
   pub written : r .written ≤ length before
   pub pauses : Pauses (r .pause) last (drop (r .read) piece) (length before) (r .written)
-  pub plays : (later : List ℕ) → (last ≡ true → later ≡ []) → PlaysTo (r .pause) b n (piece ++ later) (r .board) (r .number) (drop (r .read) piece ++ later) (take (r .written) after)
+  pub plays : (later : List ℕ) → (last ≡ true → later ≡ [])
+      → PlaysTo (r .pause) b n (piece ++ later) (r .board) (r .number) (drop (r .read) piece ++ later) (take (r .written) after)

@@ -138,12 +138,23 @@ all-differ-requires-3 c κs = search needs
 returns-4 : tie.Need-returns-4 Inv-loop μ-loop
 returns-4 c =
     let l = long (c .before .before .before .before .before .before .before .before .before .before .before) in
-    rw (gathered-sound (c .before .before .before .before .before .before .before .before .before .before .loop .inv) l (omega arith), sym (c .before .before .before .before .before .before .before .all-differ .ensures) ∙ c .before .before .before .before .before .before .if3 .taken, sym (c .before .before .before .before .all-differ2 .ensures) ∙ c .before .before .before .if4 .taken, sym (c .before .all-differ3 .ensures) ∙ c .if5 .left)
+    rw (
+      gathered-sound (c .before .before .before .before .before .before .before .before .before .before .loop .inv) l (omega arith),
+      sym (c .before .before .before .before .before .before .before .all-differ .ensures) ∙ c .before .before .before .before .before .before .if3 .taken,
+      sym (c .before .before .before .before .all-differ2 .ensures) ∙ c .before .before .before .if4 .taken,
+      sym (c .before .all-differ3 .ensures) ∙ c .if5 .left,
+    )
 
 returns-5 : tie.Need-returns-5 Inv-loop μ-loop
 returns-5 c =
     let l = long (c .before .before .before .before .before .before .before .before .before .before .before .before) in
-    rw (gathered-sound (c .before .before .before .before .before .before .before .before .before .before .before .loop .inv) l (omega arith), sym (c .before .before .before .before .before .before .before .before .all-differ .ensures) ∙ c .before .before .before .before .before .before .before .if3 .taken, sym (c .before .before .before .before .before .all-differ2 .ensures) ∙ c .before .before .before .before .if4 .taken, sym (c .before .before .all-differ3 .ensures) ∙ c .before .if5 .taken, lt-leb _ _ (c .if6 .taken))
+    rw (
+      gathered-sound (c .before .before .before .before .before .before .before .before .before .before .before .loop .inv) l (omega arith),
+      sym (c .before .before .before .before .before .before .before .before .all-differ .ensures) ∙ c .before .before .before .before .before .before .before .if3 .taken,
+      sym (c .before .before .before .before .before .all-differ2 .ensures) ∙ c .before .before .before .before .if4 .taken,
+      sym (c .before .before .all-differ3 .ensures) ∙ c .before .if5 .taken,
+      lt-leb _ _ (c .if6 .taken),
+    )
 
 slice-aggregate-all-joined-back : tie.Need-slice-aggregate-all-joined-back Inv-loop μ-loop
 slice-aggregate-all-joined-back c = search needs
@@ -160,7 +171,14 @@ all-joined-back-requires c κs = search needs
 returns-6 : tie.Need-returns-6 Inv-loop μ-loop
 returns-6 c =
     let l = long (c .before .before .before .before .before .before .before .before .before .before .before .before .before .before .before .before) in
-    rw (gathered-sound (c .before .before .before .before .before .before .before .before .before .before .before .before .before .before .before .loop .inv) l (omega arith), sym (c .before .before .before .before .before .before .before .before .before .before .before .before .all-differ .ensures) ∙ c .before .before .before .before .before .before .before .before .before .before .before .if3 .taken, sym (c .before .before .before .before .before .before .before .before .before .all-differ2 .ensures) ∙ c .before .before .before .before .before .before .before .before .if4 .taken, sym (c .before .before .before .before .before .before .all-differ3 .ensures) ∙ c .before .before .before .before .before .if5 .taken, le-leb _ _ (c .before .before .before .before .if6 .left)) (c .all-joined-back .ensures)
+    rw (
+      gathered-sound (c .before .before .before .before .before .before .before .before .before .before .before .before .before .before .before .loop .inv) l (omega arith),
+      sym (c .before .before .before .before .before .before .before .before .before .before .before .before .all-differ .ensures) ∙ c .before .before .before .before .before .before .before .before .before .before .before .if3 .taken,
+      sym (c .before .before .before .before .before .before .before .before .before .all-differ2 .ensures) ∙ c .before .before .before .before .before .before .before .before .if4 .taken,
+      sym (c .before .before .before .before .before .before .all-differ3 .ensures) ∙ c .before .before .before .before .before .if5 .taken,
+      le-leb _ _ (c .before .before .before .before .if6 .left),
+    )
+    (c .all-joined-back .ensures)
 
 pub sound-rows-spec : {M : Type 1} → statement M
 sound-rows-spec =

@@ -4,6 +4,7 @@ use native.Mathlib.Omega.{arith}
 use Prim.Native.Nat.{ℕ}
 use Prim.{tt}
 use mathlib.Core.Path.{_≡_, sym, ap, _∙_}
+use mathlib.Core.Bool.{Bool}
 use mathlib.Core.List.{List, _++_}
 use lib.ListN.{length, take, drop, length-drop}
 use borrow.Author.Needs.{needs}
@@ -123,26 +124,44 @@ same-length-4 c = search needs
 abbrev Turn : Type 0
 Turn = tie.After-stops Inv-loop μ-loop
 
-is-front : (c : Turn) → c .before .before .before .before .before .before .before .before .before .before .front-length .result ≡ frontLength (c .before .before .before .before .before .before .before .before .before .before .before .before .before .before .before .before .before .args .is-last) (drop (c .before .before .before .before .before .before .before .before .before .before .before .before .before .before .loop .read) (c .before .before .before .before .before .before .before .before .before .before .before .before .before .before .before .before .before .args .piece .now))
-is-front c = c .before .before .before .before .before .before .before .before .before .before .front-length .ensures .0 ∙ ap (frontLength (c .before .before .before .before .before .before .before .before .before .before .before .before .before .before .before .before .before .args .is-last)) (rest (c .before .before .before .before .before .before .before .before .before .before .before .before .before .before .loop .read) (c .before .before .before .before .before .before .before .before .before .before .before .before .before .before .before .before .before .args .piece .now))
+abbrev piece-of : Turn → List ℕ
+piece-of c = c .before .before .before .before .before .before .before .before .before .before .before .before .before .before .before .before .before .args .piece .now
 
-more : (c : Turn) → c .before .before .before .before .before .before .before .before .before .before .before .before .before .before .loop .read < length (c .before .before .before .before .before .before .before .before .before .before .before .before .before .before .before .before .before .args .piece .now)
+abbrev last-of : Turn → Bool
+last-of c = c .before .before .before .before .before .before .before .before .before .before .before .before .before .before .before .before .before .args .is-last
+
+abbrev read-of : Turn → ℕ
+read-of c = c .before .before .before .before .before .before .before .before .before .before .before .before .before .before .loop .read
+
+abbrev text-of : Turn → ℕ
+text-of c = c .before .before .before .before .before .before .before .before .before .before .before .before .before .before .loop .text
+
+abbrev out-of : Turn → List ℕ
+out-of c = c .before .before .before .before .before .before .before .before .before .before .before .before .before .before .loop .out
+
+abbrev front-of : Turn → ℕ
+front-of c = c .before .before .before .before .before .before .before .before .before .before .front-length .result
+
+is-front : (c : Turn) → front-of c ≡ frontLength (last-of c) (drop (read-of c) (piece-of c))
+is-front c = c .before .before .before .before .before .before .before .before .before .before .front-length .ensures .0 ∙ ap (frontLength (last-of c)) (rest (read-of c) (piece-of c))
+
+more : (c : Turn) → read-of c < length (piece-of c)
 more c = c .before .before .before .before .before .before .before .before .before .before .before .before .before .loop-test .taken
 
-some : (c : Turn) → 0 < c .before .before .before .before .before .before .before .before .before .before .front-length .result
+some : (c : Turn) → 0 < front-of c
 some c = omega (arith, c .before .before .before .before .before .before .before .before .before .if2 .left)
 
-behind-text : (c : Turn) → c .before .before .before .before .before .before .before .before .before .before .before .before .before .before .loop .text ≤ length (c .before .before .before .before .before .before .before .before .before .before .before .before .before .before .loop .out)
+behind-text : (c : Turn) → text-of c ≤ length (out-of c)
 behind-text c = omega (arith, c .before .before .before .before .before .before .before .before .before .before .before .before .before .before .loop .inv .1, c .before .before .before .before .before .before .before .before .before .before .before .before .before .before .loop .inv .2)
 
-within : (c : Turn) → c .before .before .before .before .before .before .before .before .before .before .before .before .before .before .loop .read + c .before .before .before .before .before .before .before .before .before .before .front-length .result ≤ length (c .before .before .before .before .before .before .before .before .before .before .before .before .before .before .before .before .before .args .piece .now)
+within : (c : Turn) → read-of c + front-of c ≤ length (piece-of c)
 within c =
-    let p = c .before .before .before .before .before .before .before .before .before .before .before .before .before .before .before .before .before .args .piece .now in
-    let r = c .before .before .before .before .before .before .before .before .before .before .before .before .before .before .loop .read in
-    let q : c .before .before .before .before .before .before .before .before .before .before .front-length .result ≤ length (take (length p - r) (drop r p)) = c .before .before .before .before .before .before .before .before .before .before .front-length .ensures .1 in
+    let p = piece-of c in
+    let r = read-of c in
+    let q : front-of c ≤ length (take (length p - r) (drop r p)) = c .before .before .before .before .before .before .before .before .before .before .front-length .ensures .1 in
     omega (arith, q, ap length (rest r p), length-drop r p)
 
-room-left : (c : Turn) → 512 ≤ length (take (length (c .before .before .before .before .before .before .before .before .before .before .before .before .before .before .loop .out) - c .before .before .before .before .before .before .before .before .before .before .before .before .before .before .loop .text) (drop (c .before .before .before .before .before .before .before .before .before .before .before .before .before .before .loop .text) (c .before .before .before .before .before .before .before .before .before .before .before .before .before .before .loop .out)))
+room-left : (c : Turn) → 512 ≤ length (take (length (out-of c) - text-of c) (drop (text-of c) (out-of c)))
 room-left c =
     let at = c .before .before .before .before .before .before .before .before .before .before .before .before .before .before .loop in
     omega (arith, ap length (rest (at .text) (at .out)), length-drop (at .text) (at .out))
@@ -159,7 +178,10 @@ returns-4 c =
       read = within (c .before);
       written = search needs;
       pauses = tt;
-      plays = λ later z. inl (turns-last (v .piece .now ++ later) later (v .piece .now) (at .out) (take (length (at .out) - at .text) (drop (at .text) (at .out))) _ _ (take (at .read + f .result - at .read) (drop (at .read) (v .piece .now))) (v .is-last) (at .read) (at .text) (f .result) (t .ensures .0) (t .result) _ (more (c .before)) (behind-text (c .before)) (room-left (c .before)) (is-front (c .before)) (some (c .before)) (part-of (at .read) (f .result) (v .piece .now)) (t .ensures .1) z (at .inv .3 later z) (c .before .stops .ensures) (c .if4 .taken));
+      plays = λ later z. inl (turns-last (v .piece .now ++ later) later (v .piece .now) (at .out) (take (length (at .out) - at .text) (drop (at .text) (at .out))) _ _
+          (take (at .read + f .result - at .read) (drop (at .read) (v .piece .now))) (v .is-last) (at .read) (at .text) (f .result) (t .ensures .0) (t .result) _
+          (more (c .before)) (behind-text (c .before)) (room-left (c .before)) (is-front (c .before)) (some (c .before))
+          (part-of (at .read) (f .result) (v .piece .now)) (t .ensures .1) z (at .inv .3 later z) (c .before .stops .ensures) (c .if4 .taken));
     }
 
 loop-less : tie.Need-loop-less Inv-loop μ-loop
@@ -172,8 +194,15 @@ loop-again c =
     let f = c .before .before .before .before .before .before .before .before .before .before .before .front-length in
     let t = c .before .before .before .before .before .before .tell in
     let w = t .ensures .1 .line .within in
-    let l = length-drop (at .text) (at .out) in
-    (within (c .before), search needs, search needs, λ later z. turns-on (v .piece .now ++ later) later (v .piece .now) (at .out) (take (length (at .out) - at .text) (drop (at .text) (at .out))) _ _ (take (at .read + f .result - at .read) (drop (at .read) (v .piece .now))) (v .is-last) (at .read) (at .text) (f .result) (t .ensures .0) (t .result) _ (more (c .before)) (behind-text (c .before)) (room-left (c .before)) (is-front (c .before)) (some (c .before)) (part-of (at .read) (f .result) (v .piece .now)) (t .ensures .1) z (at .inv .3 later z) (c .before .stops .ensures) (c .if4 .left))
+    let l = length-drop (at .text) (at .out) in (
+      within (c .before),
+      search needs,
+      search needs,
+      λ later z. turns-on (v .piece .now ++ later) later (v .piece .now) (at .out) (take (length (at .out) - at .text) (drop (at .text) (at .out))) _ _
+          (take (at .read + f .result - at .read) (drop (at .read) (v .piece .now))) (v .is-last) (at .read) (at .text) (f .result) (t .ensures .0) (t .result) _
+          (more (c .before)) (behind-text (c .before)) (room-left (c .before)) (is-front (c .before)) (some (c .before))
+          (part-of (at .read) (f .result) (v .piece .now)) (t .ensures .1) z (at .inv .3 later z) (c .before .stops .ensures) (c .if4 .left),
+    )
 
 at-end-requires : tie.Need-at-end-requires Inv-loop μ-loop
 at-end-requires c κs = search needs

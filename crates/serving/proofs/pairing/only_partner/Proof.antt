@@ -63,7 +63,9 @@ returns c =
     let s = c .before .before .before .before .before .before .before .before .before .before .before in
     let l = long s in
     only-several (partnerFor (s .args .t1 .options) (s .args .named)) (s .args .t1 .rows)
-    (place-yes (hasPartner (s .args .t1 .options) (s .args .named)) (s .args .t1 .rows) (c .before .before .before .before .before .before .before .before .before .loop .i) _ _ (omega arith) (c .before .before .before .before .before .before .has-partner .ensures) (c .before .before .before .before .before .if1 .taken) ∙ c .before .before .before .before .before .before .before .before .before .loop .inv .1)
+    (place-yes (hasPartner (s .args .t1 .options) (s .args .named)) (s .args .t1 .rows) (c .before .before .before .before .before .before .before .before .before .loop .i) _ _ (omega arith)
+    (c .before .before .before .before .before .before .has-partner .ensures) (c .before .before .before .before .before .if1 .taken)
+    ∙ c .before .before .before .before .before .before .before .before .before .loop .inv .1)
     (place-yes (hasPartner (s .args .t1 .options) (s .args .named)) (s .args .t1 .rows) (c .before .before .before .before .loop2 .j) _ _ (omega arith) (c .before .has-partner2 .ensures) (c .if2 .taken) ∙ c .before .before .before .before .loop2 .inv .1)
 
 add-j-2 : tie.Need-add-j-2 Inv-loop2 μ-loop2 Inv-loop μ-loop
