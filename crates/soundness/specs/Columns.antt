@@ -5,7 +5,8 @@ use mathlib.Core.List.{List, [], _∷_}
 use mathlib.Core.Option.{Option, none, some, Option·map}
 use lib.Dec.{eqb}
 use lib.IntN.{ℤ, pos, negsuc}
-use Rattle.octets.specs.Lists.{all}
+use lib.ListN.{getD, take}
+use Rattle.octets.specs.Lists.{any, all}
 use Rattle.octets.specs.Tests.{bit}
 use Rattle.board.specs.declared.OptionalLinkId.{OptionalLinkId}
 use Rattle.board.specs.declared.OptionalLinkId.the-variants.{Absent, Present}
@@ -15,8 +16,9 @@ use Rattle.board.specs.declared.Connection.{Connection}
 use Rattle.board.specs.declared.Connection.the-variants.{WithUser, WithPartner}
 use Rattle.board.specs.declared.Entry.{Entry}
 use Rattle.board.specs.Entries.{referenceOf, linkIdOf}
-use Rattle.board.specs.Soundness.{partnered}
+use Rattle.board.specs.Soundness.{answersTo, partnered}
 use Rattle.soundness.specs.declared.Key.{Key}
+use Rattle.soundness.specs.declared.Joint.{Joint}
 
 -- a number for each LinkId, and two LinkIds with one number are the same
 abbrev pub linkNumber : ℤ → ℕ
@@ -80,3 +82,17 @@ joints (n ∷ ns) (p ∷ ps) (b ∷ bs) = joint n p b ∷ joints ns ps bs
 -- "each joined row's partner is another row joined to it, not both alerting"
 abbrev pub allPartnered : List Entry → Bool
 allPartnered es = all (partnered es) es
+
+-- ---- the same, as the code has it: a joined leg at a place, and the first n places of three columns
+
+abbrev pub jointAt : List ℕ → List ℕ → List ℕ → ℕ → Joint
+jointAt ns ps bs i = record { leg = getD ns i 0; partner = getD ps i 0; alerting = getD bs i 0 }
+
+abbrev pub answersJoint : Joint → Entry → Bool
+answersJoint a e = answersTo (a .leg) (a .partner) (eqb (a .alerting) 1) e
+
+abbrev pub anyAnswers : Joint → ℕ → List ℕ → List ℕ → List ℕ → Bool
+anyAnswers a n ns ps bs = any (answersJoint a) (joints (take n ns) (take n ps) (take n bs))
+
+abbrev pub allAnswered : ℕ → List ℕ → List ℕ → List ℕ → Bool
+allAnswered n ns ps bs = allPartnered (joints (take n ns) (take n ps) (take n bs))

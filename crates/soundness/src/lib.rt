@@ -5,12 +5,13 @@
 ghost use mathlib.Core.Path.{_≡_};
 ghost use Prim.Native.Nat.{_≤_, _<_};
 ghost use lib.Dec.{eqb};
-ghost use lib.ListN.{length, getD, take, drop};
+ghost use lib.ListN.{length, take, drop};
 ghost use Rattle.octets.specs.Lists.{any, distinct};
-ghost use Rattle.board.specs.Soundness.{answersTo, soundRows, sound as soundBoard};
+ghost use Rattle.board.specs.Soundness.{soundRows, sound as soundBoard};
 ghost use Rattle.board.specs.Counts.{counts};
 ghost use Rattle.board.specs.Tallies.{tallyOf};
-ghost use Rattle.soundness.specs.Columns.{linkNumber, callKey, keyOf, joint, joints, allPartnered};
+ghost use Rattle.soundness.specs.Columns.{linkNumber, callKey, keyOf};
+ghost use Rattle.soundness.specs.Columns.{joint, jointAt, answersJoint, anyAnswers, allAnswered};
 use board::Board;
 use board::Call;
 use board::Counted;
@@ -160,11 +161,7 @@ fn places(legs: &[u32], n: usize) -> [u8; 256]
 
 fn joint_at(legs: &[u32], partners: &[u32], alerting: &[u32], i: usize) -> Joint
     requires { ⌜ (i < length (now legs)) × (i < length (now partners)) × (i < length (now alerting)) ⌝ }
-    ensures { λ r. ⌜ r ≡ record {
-      leg = getD (now (legs .entry)) i 0;
-      partner = getD (now (partners .entry)) i 0;
-      alerting = getD (now (alerting .entry)) i 0;
-    } ⌝ }
+    ensures { λ r. ⌜ r ≡ jointAt (now (legs .entry)) (now (partners .entry)) (now (alerting .entry)) i ⌝ }
 {
     Joint {
         leg: legs[i],
@@ -175,8 +172,7 @@ fn joint_at(legs: &[u32], partners: &[u32], alerting: &[u32], i: usize) -> Joint
 
 // Whether `b` is the partner of `a` and is joined back to it, not both alerting.
 fn answers(a: Joint, b: Joint) -> bool
-    ensures { λ r. ⌜ r ≡ answersTo (a .leg) (a .partner) (eqb (a .alerting) 1)
-        (joint (b .leg) (b .partner) (b .alerting)) ⌝ }
+    ensures { λ r. ⌜ r ≡ answersJoint a (joint (b .leg) (b .partner) (b .alerting)) ⌝ }
 {
     (a.partner == b.leg) & ((a.leg == b.partner) & !((a.alerting == 1) & (b.alerting == 1)))
 }
@@ -191,8 +187,7 @@ fn is_answered(
     n: usize,
 ) -> bool
     requires { ⌜ (n ≤ length (now legs)) × (n ≤ length (now partners)) × (n ≤ length (now alerting)) ⌝ }
-    ensures { λ r. ⌜ r ≡ any (answersTo (a .leg) (a .partner) (eqb (a .alerting) 1))
-        (joints (take n (now (legs .entry))) (take n (now (partners .entry))) (take n (now (alerting .entry)))) ⌝ }
+    ensures { λ r. ⌜ r ≡ anyAnswers a n (now (legs .entry)) (now (partners .entry)) (now (alerting .entry)) ⌝ }
 {
     if first < n {
         if answers(a, joint_at(legs, partners, alerting, first)) {
@@ -210,8 +205,7 @@ fn is_answered(
 // Whether each of the first n joined legs has another as its partner that is joined back to it, not both alerting.
 fn all_joined_back(legs: &[u32], partners: &[u32], alerting: &[u32], n: usize) -> bool
     requires { ⌜ (n ≤ 64) × (n ≤ length (now legs)) × (n ≤ length (now partners)) × (n ≤ length (now alerting)) ⌝ }
-    ensures { λ r. ⌜ r ≡ allPartnered
-        (joints (take n (now (legs .entry))) (take n (now (partners .entry))) (take n (now (alerting .entry)))) ⌝ }
+    ensures { λ r. ⌜ r ≡ allAnswered n (now (legs .entry)) (now (partners .entry)) (now (alerting .entry)) ⌝ }
 {
     let places = places(legs, n);
     for i in 0..n {

@@ -116,7 +116,10 @@ all-differ-requires c κs = search needs
 returns-2 : tie.Need-returns-2 Inv-loop μ-loop
 returns-2 c =
     let l = long (c .before .before .before .before .before) in
-    rw (gathered-sound (c .before .before .before .before .loop .inv) l (omega arith), sym (c .before .all-differ .ensures) ∙ c .if3 .left)
+    rw (
+      gathered-sound (c .before .before .before .before .loop .inv) l (omega arith),
+      sym (c .before .all-differ .ensures) ∙ c .if3 .left,
+    )
 
 slice-aggregate-all-differ-2 : tie.Need-slice-aggregate-all-differ-2 Inv-loop μ-loop
 slice-aggregate-all-differ-2 c = search needs
@@ -127,7 +130,11 @@ all-differ-requires-2 c κs = search needs
 returns-3 : tie.Need-returns-3 Inv-loop μ-loop
 returns-3 c =
     let l = long (c .before .before .before .before .before .before .before .before) in
-    rw (gathered-sound (c .before .before .before .before .before .before .before .loop .inv) l (omega arith), sym (c .before .before .before .before .all-differ .ensures) ∙ c .before .before .before .if3 .taken, sym (c .before .all-differ2 .ensures) ∙ c .if4 .left)
+    rw (
+      gathered-sound (c .before .before .before .before .before .before .before .loop .inv) l (omega arith),
+      sym (c .before .before .before .before .all-differ .ensures) ∙ c .before .before .before .if3 .taken,
+      sym (c .before .all-differ2 .ensures) ∙ c .if4 .left,
+    )
 
 slice-aggregate-all-differ-3 : tie.Need-slice-aggregate-all-differ-3 Inv-loop μ-loop
 slice-aggregate-all-differ-3 c = search needs
