@@ -5,18 +5,16 @@ use mathlib.Core.Bool.{Bool, true, false, _&&_, not}
 use mathlib.Core.List.{List, List·Memᴰ}
 use mathlib.Core.Option.{Option, none, some}
 use lib.Dec.{eqb, leb}
-use lib.IntN.{ℤ}
 use lib.ListN.{length}
 use Rattle.octets.specs.Lists.{any, all, keep, distinct}
-use Rattle.octets.specs.Tests.{has, noneOr, hasBoth}
+use Rattle.octets.specs.Tests.{has, noneOr}
 use Rattle.octets.proofs.Lists.{any-of, keep-ext, same-tests, true-not-false}
 use Rattle.octets.proofs.Loops.{all-pick, any-pick, distinct-pick, all-and, any-and, all-same, distinct-or, length-pick, length-keep-pick}
-use Rattle.board.specs.declared.Call.{Call}
 use Rattle.board.specs.declared.Standing.{Standing}
 use Rattle.board.specs.declared.Standing.the-variants.{Empty, Served, Joined}
 use Rattle.board.specs.declared.Row.{Row}
-use Rattle.board.specs.Entries.{Connection, WithUser, WithPartner, Entry, entryOf, rowEntry, taken, occupied, linkIdIn, linked, isJoined, linkIds}
-use Rattle.board.specs.Soundness.{validRow, validEntry, validParty, validStanding, sameLegs, sameReferences, sameLinkIds, sameLinkIdsIn, answersTo, validPartner, partnered, soundEntries, soundRows}
+use Rattle.board.specs.Entries.{Connection, WithUser, WithPartner, Entry, entryOf, rowEntry, taken, occupied, linked, isJoined, linkIds}
+use Rattle.board.specs.Soundness.{validRow, validEntry, validParty, validStanding, sameLegs, sameReferences, sameLinkIds, answersTo, validPartner, partnered, soundEntries, soundRows}
 use Rattle.board.specs.RowTests.{fits, sharing, clashing, clash, answered, paired, takenRow, joinedRow, linkedRow}
 use Rattle.board.specs.Tallies.{tallyOf}
 
@@ -29,11 +27,6 @@ and-false true = refl
 and-false false = refl
 
 -- ---- one row
-
-pub no-answer : (n p : ℕ) (alerting : Bool) (leg : ℕ) (s : Standing) → eqb p leg ≡ false → has (answersTo n p alerting) (entryOf leg s) ≡ false
-no-answer n p a leg Empty e = refl
-no-answer n p a leg (Served c) e = rw e
-no-answer n p a leg (Joined q b) e = rw e
 
 pub taken-party : (leg p n : ℕ) (ds : List ℕ) (s : Standing) → occupied s ≡ true → validStanding leg p n ds s ≡ validParty p n ds
 taken-party leg p n ds Empty e = absurd (true-not-false e refl)
@@ -56,42 +49,6 @@ unfit-call r e = rw e (and-false (validRow r))
 pub empty-row-fits : (r : Row) → occupied (r .standing) ≡ false → fits r ≡ validStanding (r .leg) (r .presentation) (r .count) (r .digits) Empty
 unfolding fits validRow
 empty-row-fits r t = rw (empty-standing (r .standing) t) (and-true _)
-
--- ---- two rows
-
-pub joined-shares-not : (m p : ℕ) (a : Bool) (o : Option Entry) → hasBoth sharing (entryOf m (Joined p a)) o ≡ false
-joined-shares-not m p a none = refl
-joined-shares-not m p a (some f) = refl
-
-pub call-shares-not : (m : ℕ) (c : Call) (n p : ℕ) (a : Bool) → hasBoth sharing (entryOf m (Served c)) (entryOf n (Joined p a)) ≡ false
-call-shares-not m c n p a = go (linkIdIn (c .link))
-  where
-    go : (o : Option ℤ) → sameLinkIdsIn o none ≡ false
-    go none = refl
-    go (some z) = refl
-
-pub empty-clashes-not : (m : ℕ) (s : Standing) (o : Option Entry) → occupied s ≡ false → hasBoth clashing (entryOf m s) o ≡ false
-empty-clashes-not m Empty o e = refl
-empty-clashes-not m (Served c) o e = absurd (true-not-false refl e)
-empty-clashes-not m (Joined q a) o e = absurd (true-not-false refl e)
-
-pub apart-by-leg : (m n : ℕ) (s t : Standing) → eqb m n ≡ false → hasBoth clashing (entryOf m s) (entryOf n t) ≡ hasBoth sharing (entryOf m s) (entryOf n t)
-apart-by-leg m n Empty t e = refl
-apart-by-leg m n (Served c) Empty e = refl
-apart-by-leg m n (Served c) (Served d) e = rw e
-apart-by-leg m n (Served c) (Joined q b) e = rw e
-apart-by-leg m n (Joined p a) Empty e = refl
-apart-by-leg m n (Joined p a) (Served d) e = rw e
-apart-by-leg m n (Joined p a) (Joined q b) e = rw e
-
-pub clash-by-leg : (m n : ℕ) (s t : Standing) → eqb m n ≡ true → occupied s ≡ true → hasBoth clashing (entryOf m s) (entryOf n t) ≡ occupied t
-clash-by-leg m n Empty t e h = absurd (true-not-false h refl)
-clash-by-leg m n (Served c) Empty e h = refl
-clash-by-leg m n (Served c) (Served d) e h = rw e
-clash-by-leg m n (Served c) (Joined q b) e h = rw e
-clash-by-leg m n (Joined p a) Empty e h = refl
-clash-by-leg m n (Joined p a) (Served d) e h = rw e
-clash-by-leg m n (Joined p a) (Joined q b) e h = rw e
 
 -- ---- all rows
 

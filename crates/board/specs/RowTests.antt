@@ -5,10 +5,9 @@ use mathlib.Core.Bool.{Bool, true, _&&_, _||_, not}
 use mathlib.Core.Option.{Option, none}
 use lib.Dec.{eqb}
 use Rattle.octets.specs.Tests.{has, noneOr, hasBoth}
-use Rattle.board.specs.declared.Call.{Call}
 use Rattle.board.specs.declared.Row.{Row}
-use Rattle.board.specs.Entries.{Connection, WithUser, WithPartner, Entry, rowEntry, occupied, linkIdIn, linked, isJoined}
-use Rattle.board.specs.Soundness.{validRow, validEntry, sameLegs, sameReferences, sameLinkIds, sameLinkIdsIn, answersTo}
+use Rattle.board.specs.Entries.{Connection, WithUser, WithPartner, Entry, rowEntry, occupied, linked, isJoined}
+use Rattle.board.specs.Soundness.{validRow, validEntry, sameLegs, sameReferences, sameLinkIds, answersTo}
 
 -- "fields obey this section and the digit rules below"
 unfoldable pub fits : Row → Bool
@@ -20,10 +19,6 @@ sharing e f = sameReferences e f || sameLinkIds e f
 
 abbrev pub clashing : Entry → Entry → Bool
 clashing e f = sameLegs e f || sharing e f
-
--- of two calls that is
-abbrev pub callsShare : Call → Call → Bool
-callsShare c d = eqb (c .reference .0) (d .reference .0) || sameLinkIdsIn (linkIdIn (c .link)) (linkIdIn (d .link))
 
 unfoldable pub clash : Row → Row → Bool
 clash a b = hasBoth clashing (rowEntry a) (rowEntry b)

@@ -1,6 +1,5 @@
 -- Laws of lists, numbers and LinkIds, for the proofs of this crate and of those above it.
 pub mod Laws
-pub mod LinkIds
 pub mod Lists
 pub mod Loops
 pub mod Places

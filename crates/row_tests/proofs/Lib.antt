@@ -1,2 +1,3 @@
--- Laws of digits, for the proofs of this crate.
+-- Laws of digits and of what rows are compared by.
 pub mod Digits
+pub mod KeyLaws

@@ -1,12 +1,12 @@
 // The tests of one row and of two rows that soundness is made of, and what a row adds to the counts.
 ghost use mathlib.Core.Path.{_≡_};
-ghost use Rattle.octets.specs.Tests.{has, noneOr, hasBoth};
-ghost use Rattle.octets.specs.Numbers.{sameLinkId};
+ghost use Rattle.octets.specs.Tests.{noneOr};
 ghost use Rattle.board.specs.States.{sameAuxiliary, validDirection, holdable, validCall};
-ghost use Rattle.board.specs.Entries.{rowEntry, linkIdIn};
-ghost use Rattle.board.specs.Soundness.{validDigits, validParty, validStanding, validEntry, sameLinkIdsIn, answersTo};
-ghost use Rattle.board.specs.RowTests.{fits, sharing, callsShare, clash, paired, takenRow};
+ghost use Rattle.board.specs.Entries.{rowEntry};
+ghost use Rattle.board.specs.Soundness.{validDigits, validParty, validStanding, validEntry};
+ghost use Rattle.board.specs.RowTests.{fits, clash, paired, takenRow};
 ghost use Rattle.board.specs.Tallies.{rowTally};
+ghost use Rattle.row_tests.specs.RowKeys.{bothSame};
 use board::AuxiliaryState;
 use board::Call;
 use board::CallState;
@@ -16,7 +16,11 @@ use board::Row;
 use board::Standing;
 use board::Tally;
 use board::finding::is_occupied;
-use octets::LinkId;
+use keys::Joint;
+use keys::answers;
+use keys::row_key;
+
+pub mod keys;
 
 fn direction_valid(state: CallState, direction: Direction) -> bool
     ensures { λ r. ⌜ r ≡ validDirection state direction ⌝ }
@@ -155,102 +159,42 @@ pub fn row_fits(row: Row) -> bool
     empty_fits(row)
 }
 
-fn same_link_id(a: LinkId, b: LinkId) -> bool
-    ensures { λ r. ⌜ r ≡ sameLinkId (a .0) (b .0) ⌝ }
+// Two numbers that are both there, as their counts of 1 say, and the same.
+fn both_same(j: usize, m: u32, k: usize, n: u32) -> bool
+    ensures { λ r. ⌜ r ≡ bothSame j m k n ⌝ }
 {
-    a.0 == b.0
-}
-
-fn links_clash(a: OptionalLinkId, b: OptionalLinkId) -> bool
-    ensures { λ r. ⌜ r ≡ sameLinkIdsIn (linkIdIn a) (linkIdIn b) ⌝ }
-{
-    match a {
-        OptionalLinkId::Absent => false,
-        OptionalLinkId::Present(l) => match b {
-            OptionalLinkId::Absent => false,
-            OptionalLinkId::Present(m) => same_link_id(l, m),
-        },
-    }
-}
-
-fn calls_clash(a: Call, b: Call) -> bool
-    ensures { λ r. ⌜ r ≡ callsShare a b ⌝ }
-{
-    let k = a.link;
-    let l = b.link;
-    if a.reference.0 == b.reference.0 {
-        return true;
-    }
-    links_clash(k, l)
-}
-
-fn standings_clash(a: Row, b: Row) -> bool
-    ensures { λ r. ⌜ r ≡ hasBoth sharing (rowEntry a) (rowEntry b) ⌝ }
-{
-    let s = a.standing;
-    let t = b.standing;
-    match s {
-        Standing::Empty => false,
-        Standing::Joined { .. } => false,
-        Standing::Served(c) => match t {
-            Standing::Empty => false,
-            Standing::Joined { .. } => false,
-            Standing::Served(d) => calls_clash(c, d),
-        },
-    }
+    (j == 1) & ((k == 1) & (m == n))
 }
 
 // Two rows share a leg, a reference or a LinkId.
 pub fn rows_clash(a: Row, b: Row) -> bool
     ensures { λ r. ⌜ r ≡ clash a b ⌝ }
 {
-    if a.leg == b.leg {
-        if is_taken(a) {
-            return is_taken(b);
-        }
-        return false;
-    }
-    standings_clash(a, b)
-}
-
-// Whether a row has the leg `partner` and is joined back to the leg `own`, not alerting where that one does.
-fn row_answers(row: Row, own: u32, partner: u32, alerting: bool) -> bool
-    ensures { λ r. ⌜ r ≡ has (answersTo own partner alerting) (rowEntry row) ⌝ }
-{
-    let standing = row.standing;
-    if partner == row.leg {} else {
-        return false;
-    }
-    match standing {
-        Standing::Empty => false,
-        Standing::Served(_) => false,
-        Standing::Joined {
-            partner: p,
-            alerting: a,
-        } => {
-            if own == p {} else {
-                return false;
-            }
-            if alerting { !a } else { true }
-        }
-    }
+    let k = row_key(a);
+    let l = row_key(b);
+    let legs = is_taken(a) & is_taken(b) & (a.leg == b.leg);
+    let references = both_same(k.served, k.reference, l.served, l.reference);
+    let links = both_same(k.linked, k.link, l.linked, l.link);
+    legs | (references | links)
 }
 
 // Whether `b` is the partner of `a`, or `a` needs none.
 pub fn rows_paired(a: Row, b: Row) -> bool
     ensures { λ r. ⌜ r ≡ paired a b ⌝ }
 {
-    let standing = a.standing;
-    match standing {
-        Standing::Empty => true,
-        Standing::Served(_) => true,
-        Standing::Joined { partner, alerting } => {
-            if a.leg == partner {
-                return false;
-            }
-            row_answers(b, a.leg, partner, alerting)
-        }
-    }
+    let k = row_key(a);
+    let l = row_key(b);
+    let own = Joint {
+        leg: a.leg,
+        partner: k.partner,
+        alerting: k.alerting,
+    };
+    let other = Joint {
+        leg: b.leg,
+        partner: l.partner,
+        alerting: l.alerting,
+    };
+    (k.joined == 0) | (!(a.leg == k.partner) & ((l.joined == 1) & answers(own, other)))
 }
 
 // What one row adds to each count.

@@ -1,5 +1,5 @@
 -- Laws of a loop that reads rows into columns, and of the loops over columns.
-use Prim.Native.Nat.{ℕ, zero, suc, _+_, _-_, _*_, _%_, _≤_, _<_}
+use Prim.Native.Nat.{ℕ, zero, suc, _+_, _-_, _%_, _≤_, _<_}
 use native.Mathlib.Nat.{le-refl, add-zero}
 use native.Mathlib.Numerals.{add-one}
 use native.Mathlib.Decide.{ℕ-discrete}
@@ -9,13 +9,10 @@ use mathlib.Core.Bool.{Bool, true, false, not, and-false}
 use mathlib.Core.List.{List, [], _∷_, _++_, List·Memᴰ}
 use mathlib.Core.Option.{Option, none, some, Option·map}
 use lib.Dec.{eqb}
-use lib.IntN.{ℤ, pos, negsuc}
 use lib.ListN.{length, getD, set, take, drop, length-set}
 use lib.Seq.{take-suc, take-all, take-set-le, take-suc-set, getD-set-same, getD-set-other}
-use lib.Signed.{mag}
 use borrow.Author.Tests.{eq-eqb, ne-eqb}
 use Rattle.octets.specs.Lists.{any, all, distinct, consOpt, pick}
-use Rattle.octets.specs.Numbers.{bits}
 use Rattle.octets.proofs.Lists.{true-not-false, both, eqb-eq, all-at, all-by, none-by, or-right}
 use Rattle.octets.proofs.Loops.{Step, Past, step-first, past-first, all-yes, all-no, all-end, distinct-yes, distinct-no, distinct-end, pick-skip}
 use Rattle.octets.proofs.Places.{pickOpt, pick-pick}
@@ -28,17 +25,8 @@ use Rattle.board.specs.declared.Entry.{Entry}
 use Rattle.board.specs.declared.Connection.the-variants.{WithPartner}
 use Rattle.board.specs.Entries.{entry, entryOf, rowEntry, taken, occupied, linkIdIn}
 use Rattle.board.specs.Soundness.{answersTo, partnered}
-use Rattle.soundness.specs.Columns.{linkNumber, legIn, referenceIn, linkIn, ownIn, partnerIn, alertingIn, callKey, keyOf, joint, joints}
-
--- ---- the number of a LinkId, from its bits
-
-pub number-even : (z : ℤ) (n : ℕ) → mag z < 32768 → n ≡ bits z → n < 32768 → n * 2 ≡ linkNumber z
-number-even (pos m) n f e h = omega arith
-number-even (negsuc m) n f e h = absurd (omega arith)
-
-pub number-odd : (z : ℤ) (n : ℕ) → mag z < 32768 → n ≡ bits z → 32768 ≤ n → (65535 - n) * 2 + 1 ≡ linkNumber z
-number-odd (pos m) n f e h = absurd (omega arith)
-number-odd (negsuc m) n f e h = omega arith
+use Rattle.row_tests.specs.RowKeys.{linkNumber, callKey, keyOf, joint}
+use Rattle.soundness.specs.Columns.{legIn, referenceIn, linkIn, ownIn, partnerIn, alertingIn, joints}
 
 -- ---- a column that is being read: its first n numbers are what f finds in the entries of the first i rows
 

@@ -1,18 +1,15 @@
 -- Soundness of rows by the columns that they are read into.
-use Prim.Native.Nat.{ℕ, _*_, _+_}
-use native.Mathlib.Omega.{arith}
+use Prim.Native.Nat.{ℕ}
 use mathlib.Core.Path.{_≡_, refl, sym, ap, _∙_}
 use mathlib.Core.Bool.{Bool, true, false, _&&_, _||_, not, and-false, and-assoc}
 use mathlib.Core.List.{List, [], _∷_}
 use mathlib.Core.Option.{Option, none, some, Option·map}
 use lib.Dec.{eqb, leb}
-use lib.IntN.{ℤ, pos, negsuc}
+use lib.IntN.{ℤ}
 use lib.ListN.{length}
-use borrow.Author.Tests.{ne-eqb}
 use Rattle.octets.specs.Lists.{any, all, consIf, keep, distinct, consOpt, pick}
-use Rattle.octets.specs.Tests.{has, hasBoth, bit}
-use Rattle.octets.specs.Numbers.{sameLinkId}
-use Rattle.octets.proofs.Lists.{true-not-false, same-tests, eqb-eq, eqb-of, keep-ext, all-ext}
+use Rattle.octets.specs.Tests.{has, hasBoth}
+use Rattle.octets.proofs.Lists.{true-not-false, keep-ext, all-ext}
 use Rattle.octets.proofs.Loops.{distinct-pick, distinct-ext, length-pick}
 use Rattle.board.specs.declared.Connection.{Connection}
 use Rattle.board.specs.declared.Connection.the-variants.{WithUser, WithPartner}
@@ -22,15 +19,11 @@ use Rattle.board.specs.Entries.{entry, taken, linkIdOf, linked, present, isJoin
 use Rattle.board.specs.Soundness.{validRow, validEntry, sameNumbers, sameReferences, sameLinkIdsIn, sameLinkIds, answersTo, validPartner, partnered, soundEntries, soundRows}
 use Rattle.board.specs.RowTests.{fits}
 use Rattle.board.proofs.Rows.{fits-all}
-use Rattle.soundness.specs.Columns.{linkNumber, legIn, referenceIn, linkIn, joinedLeg, ownIn, partnerOf, partnerIn, alertingOf, alertingIn, joints, allPartnered}
+use Rattle.row_tests.specs.RowKeys.{linkNumber}
+use Rattle.row_tests.proofs.KeyLaws.{same-number, bit-one}
+use Rattle.soundness.specs.Columns.{legIn, referenceIn, linkIn, joinedLeg, ownIn, partnerOf, partnerIn, alertingOf, alertingIn, joints, allPartnered}
 
 -- ---- distinctness
-
-same-number : (y z : ℤ) → sameLinkId y z ≡ eqb (linkNumber y) (linkNumber z)
-same-number (pos m) (pos n) = same-tests (λ t. eqb-of (m * 2) (n * 2) (ap (λ (k : ℕ). k * 2) (eqb-eq m n t))) (λ t. let e = eqb-eq (m * 2) (n * 2) t in eqb-of m n (omega arith))
-same-number (pos m) (negsuc n) = sym (ne-eqb (m * 2) (n * 2 + 1) (λ e. omega arith))
-same-number (negsuc m) (pos n) = sym (ne-eqb (m * 2 + 1) (n * 2) (λ e. omega arith))
-same-number (negsuc m) (negsuc n) = same-tests (λ t. eqb-of (m * 2 + 1) (n * 2 + 1) (ap (λ (k : ℕ). k * 2 + 1) (eqb-eq m n t))) (λ t. let e = eqb-eq (m * 2 + 1) (n * 2 + 1) t in eqb-of m n (omega arith))
 
 both-numbers : (o p : Option ℕ) → sameNumbers o p ≡ hasBoth eqb o p
 both-numbers none p = refl
@@ -67,10 +60,6 @@ links-counted es =
 
 abbrev joined : Entry → Bool
 joined e = isJoined (e .connection)
-
-bit-one : (b : Bool) → eqb (bit b) 1 ≡ b
-bit-one true = refl
-bit-one false = refl
 
 joints-taken : (es : List Entry) → joints (pick ownIn es) (pick partnerIn es) (pick alertingIn es) ≡ keep joined es
 unfolding joints

@@ -16,8 +16,9 @@ use Rattle.board.specs.Entries.{entryOf, rowEntry, taken}
 use Rattle.board.specs.Soundness.{soundRows}
 use Rattle.board.specs.RowTests.{fits, takenRow}
 use Rattle.board.proofs.Rows.{empty-standing}
-use Rattle.soundness.specs.declared.Key.{Key}
-use Rattle.soundness.specs.Columns.{legIn, referenceIn, linkIn, ownIn, partnerIn, alertingIn, keyOf, joints, allPartnered}
+use Rattle.row_tests.specs.declared.keys.RowKey.{RowKey}
+use Rattle.row_tests.specs.RowKeys.{keyOf}
+use Rattle.soundness.specs.Columns.{legIn, referenceIn, linkIn, ownIn, partnerIn, alertingIn, joints, allPartnered}
 use Rattle.soundness.proofs.ColumnLaws.{Column, column-start, column-skip, column-step, column-end, gives-leg, gives-reference, gives-link, gives-own, gives-partner, gives-alerting}
 use Rattle.soundness.proofs.ColumnSoundness.{sound-by-columns}
 
@@ -53,12 +54,12 @@ pub gathered-as : {rows : List Row} {i : ℕ} {a b c d e f a' b' c' d' e' f' : L
 gathered-as p q r s t u v w x y g = rw (p, q, r, s, t, u, v, w, x, y) g
 
 -- a count that a row adds is 0 or 1
-pub record Small (key : Key) : Type 0 where
+pub record Small (key : RowKey) : Type 0 where
   pub served : key .served ≤ 1
   pub linked : key .linked ≤ 1
   pub joined : key .joined ≤ 1
 
-pub small-key : (s : Standing) (key : Key) → key ≡ keyOf s → Small key
+pub small-key : (s : Standing) (key : RowKey) → key ≡ keyOf s → Small key
 small-key s key e = rw e (record { served = gives-reference 0 s .one; linked = gives-link 0 s .one; joined = gives-own 0 s .one })
 
 module _ {rows : List Row} {i : ℕ} {legs references links own partners alerting : List ℕ} {takens served linked joined : ℕ}
@@ -82,7 +83,7 @@ module _ {rows : List Row} {i : ℕ} {legs references links own partners alertin
           the-alerting = column-skip d w n (g .the-alerting);
         }
 
-    pub gathered-step : (key : Key) → key ≡ keyOf (getD rows i d .standing) → takenRow (getD rows i d) ≡ true →
+    pub gathered-step : (key : RowKey) → key ≡ keyOf (getD rows i d .standing) → takenRow (getD rows i d) ≡ true →
         Gathered
         rows
         (i + 1)

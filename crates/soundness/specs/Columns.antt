@@ -1,29 +1,18 @@
 -- Columns of numbers that the rows not empty are read into, to be tested for soundness (document 01, "The board").
-use Prim.Native.Nat.{ℕ, _+_, _*_}
+use Prim.Native.Nat.{ℕ}
 use mathlib.Core.Bool.{Bool}
 use mathlib.Core.List.{List, [], _∷_}
 use mathlib.Core.Option.{Option, none, some, Option·map}
-use lib.Dec.{eqb}
-use lib.IntN.{ℤ, pos, negsuc}
 use lib.ListN.{getD, take}
 use Rattle.octets.specs.Lists.{any, all}
 use Rattle.octets.specs.Tests.{bit}
-use Rattle.board.specs.declared.OptionalLinkId.{OptionalLinkId}
-use Rattle.board.specs.declared.OptionalLinkId.the-variants.{Absent, Present}
-use Rattle.board.specs.declared.Standing.{Standing}
-use Rattle.board.specs.declared.Standing.the-variants.{Empty, Served, Joined}
 use Rattle.board.specs.declared.Connection.{Connection}
 use Rattle.board.specs.declared.Connection.the-variants.{WithUser, WithPartner}
 use Rattle.board.specs.declared.Entry.{Entry}
 use Rattle.board.specs.Entries.{referenceOf, linkIdOf}
-use Rattle.board.specs.Soundness.{answersTo, partnered}
-use Rattle.soundness.specs.declared.Key.{Key}
-use Rattle.soundness.specs.declared.Joint.{Joint}
-
--- a number for each LinkId, and two LinkIds with one number are the same
-abbrev pub linkNumber : ℤ → ℕ
-linkNumber (pos n) = n * 2
-linkNumber (negsuc n) = n * 2 + 1
+use Rattle.board.specs.Soundness.{partnered}
+use Rattle.row_tests.specs.declared.keys.Joint.{Joint}
+use Rattle.row_tests.specs.RowKeys.{linkNumber, joint, answersJoint}
 
 -- ---- what an entry puts into each column
 
@@ -57,21 +46,7 @@ alertingOf (WithPartner p a) = some (bit a)
 abbrev pub alertingIn : Entry → Option ℕ
 alertingIn e = alertingOf (e .connection)
 
--- ---- the same of a standing, all in one
-
-abbrev pub callKey : ℕ → OptionalLinkId → Key
-callKey n Absent = record { served = 1; reference = n; linked = 0; link = 0; joined = 0; partner = 0; alerting = 0 }
-callKey n (Present l) = record { served = 1; reference = n; linked = 1; link = linkNumber (l .0); joined = 0; partner = 0; alerting = 0 }
-
-unfoldable pub keyOf : Standing → Key
-keyOf Empty = record { served = 0; reference = 0; linked = 0; link = 0; joined = 0; partner = 0; alerting = 0 }
-keyOf (Served c) = callKey (c .reference .0) (c .link)
-keyOf (Joined p a) = record { served = 0; reference = 0; linked = 0; link = 0; joined = 1; partner = p; alerting = bit a }
-
 -- ---- the entries of joined rows, out of three columns
-
-abbrev pub joint : ℕ → ℕ → ℕ → Entry
-joint n p a = record { leg = n; connection = WithPartner p (eqb a 1) }
 
 unfoldable pub joints : List ℕ → List ℕ → List ℕ → List Entry
 joints [] ps bs = []
@@ -87,9 +62,6 @@ allPartnered es = all (partnered es) es
 
 abbrev pub jointAt : List ℕ → List ℕ → List ℕ → ℕ → Joint
 jointAt ns ps bs i = record { leg = getD ns i 0; partner = getD ps i 0; alerting = getD bs i 0 }
-
-abbrev pub answersJoint : Joint → Entry → Bool
-answersJoint a e = answersTo (a .leg) (a .partner) (eqb (a .alerting) 1) e
 
 abbrev pub anyAnswers : Joint → ℕ → List ℕ → List ℕ → List ℕ → Bool
 anyAnswers a n ns ps bs = any (answersJoint a) (joints (take n ns) (take n ps) (take n bs))

@@ -10,107 +10,17 @@ ghost use Rattle.octets.specs.Lists.{any, distinct};
 ghost use Rattle.board.specs.Soundness.{soundRows, sound as soundBoard};
 ghost use Rattle.board.specs.Counts.{counts};
 ghost use Rattle.board.specs.Tallies.{tallyOf};
-ghost use Rattle.soundness.specs.Columns.{linkNumber, callKey, keyOf};
-ghost use Rattle.soundness.specs.Columns.{joint, jointAt, answersJoint, anyAnswers, allAnswered};
+ghost use Rattle.soundness.specs.Columns.{jointAt, anyAnswers, allAnswered};
 use board::Board;
-use board::Call;
 use board::Counted;
-use board::OptionalLinkId;
 use board::Row;
-use board::Standing;
 use board::Tally;
-use octets::LinkId;
 use row_tests::is_taken;
+use row_tests::keys::Joint;
+use row_tests::keys::answers;
+use row_tests::keys::row_key;
 use row_tests::row_fits;
 use row_tests::row_tally;
-
-// What the standing of a row puts into the columns; `served`, `linked` and `joined` are 1 where it puts something
-// there, else 0.
-struct Key {
-    served: usize,
-    reference: u32,
-    linked: usize,
-    link: u32,
-    joined: usize,
-    partner: u32,
-    alerting: u32,
-}
-
-// A joined leg, its partner, and 1 where it alerts.
-struct Joint {
-    leg: u32,
-    partner: u32,
-    alerting: u32,
-}
-
-// A number for each LinkId: those from 0 on are even, and the negative ones are odd.
-fn link_number(link: LinkId) -> u32
-    ensures { λ r. ⌜ r ≡ linkNumber (link .0) ⌝ }
-{
-    let n = link.to_bits();
-    if n < 32768 {
-        (n as u32) * 2
-    } else {
-        ((65535 - n) as u32) * 2 + 1
-    }
-}
-
-fn call_key(call: Call) -> Key
-    ensures { λ r. ⌜ r ≡ callKey (call .reference .0) (call .link) ⌝ }
-{
-    let reference = call.reference.0 as u32;
-    let link = call.link;
-    match link {
-        OptionalLinkId::Absent => Key {
-            served: 1,
-            reference,
-            linked: 0,
-            link: 0,
-            joined: 0,
-            partner: 0,
-            alerting: 0,
-        },
-        OptionalLinkId::Present(l) => {
-            let number = link_number(l);
-            Key {
-                served: 1,
-                reference,
-                linked: 1,
-                link: number,
-                joined: 0,
-                partner: 0,
-                alerting: 0,
-            }
-        }
-    }
-}
-
-fn row_key(row: Row) -> Key
-    ensures { λ r. ⌜ r ≡ keyOf (row .standing) ⌝ }
-{
-    let standing = row.standing;
-    match standing {
-        Standing::Empty => Key {
-            served: 0,
-            reference: 0,
-            linked: 0,
-            link: 0,
-            joined: 0,
-            partner: 0,
-            alerting: 0,
-        },
-        Standing::Served(call) => call_key(call),
-        Standing::Joined { partner, alerting } => Key {
-            served: 0,
-            reference: 0,
-            linked: 0,
-            link: 0,
-            joined: 1,
-            partner,
-            alerting: alerting as u32,
-        },
-    }
-}
 
 // Whether a number stands in a column from a place on, before place n.
 fn is_later(number: u32, column: &[u32], from: usize, n: usize) -> bool
@@ -168,13 +78,6 @@ fn joint_at(legs: &[u32], partners: &[u32], alerting: &[u32], i: usize) -> Joint
         partner: partners[i],
         alerting: alerting[i],
     }
-}
-
-// Whether `b` is the partner of `a` and is joined back to it, not both alerting.
-fn answers(a: Joint, b: Joint) -> bool
-    ensures { λ r. ⌜ r ≡ answersJoint a (joint (b .leg) (b .partner) (b .alerting)) ⌝ }
-{
-    (a.partner == b.leg) & ((a.leg == b.partner) & !((a.alerting == 1) & (b.alerting == 1)))
 }
 
 // Whether one of the first n joined legs answers to `a`; place `first` is tried before the others.

@@ -1,6 +1,6 @@
 use borrow.Author.Needs.{needs}
-use Rattle.soundness.proofs.call_key.Statement.{statement}
-use Rattle.soundness.proofs.call_key.Tie as tie
+use Rattle.row_tests.proofs.keys.call_key.Statement.{statement}
+use Rattle.row_tests.proofs.keys.call_key.Tie as tie
 
 cast-reference : tie.Need-cast-reference
 cast-reference c = search needs

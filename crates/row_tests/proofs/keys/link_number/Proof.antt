@@ -1,8 +1,8 @@
 use borrow.Author.Needs.{needs}
-use Rattle.soundness.proofs.link_number.Statement.{statement}
-use Rattle.soundness.proofs.link_number.Tie as tie
+use Rattle.row_tests.proofs.keys.link_number.Statement.{statement}
+use Rattle.row_tests.proofs.keys.link_number.Tie as tie
 use native.Mathlib.Omega.{arith}
-use Rattle.soundness.proofs.ColumnLaws.{number-even, number-odd}
+use Rattle.row_tests.proofs.KeyLaws.{number-even, number-odd}
 
 to-bits-requires : tie.Need-to-bits-requires
 to-bits-requires c κs = search needs
