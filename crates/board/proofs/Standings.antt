@@ -1,11 +1,11 @@
 -- Rows with their standing changed: what a row becomes by the standing that it had.
 use Prim.Native.Nat.{ℕ}
 use native.Mathlib.Omega.{arith}
-use mathlib.Core.Path.{_≡_, refl, sym, ap}
+use mathlib.Core.Path.{_≡_, refl, sym, ap, _∙_}
 use mathlib.Core.Bool.{Bool, true, false, cond, _||_}
 use lib.Dec.{eqb}
 use Rattle.octets.specs.declared.CallReference.{CallReference}
-use Rattle.octets.proofs.Lists.{or-false}
+use Rattle.octets.proofs.Lists.{or-false, eqb-sym}
 use Rattle.board.specs.declared.Call.{Call}
 use Rattle.board.specs.declared.Standing.{Standing}
 use Rattle.board.specs.declared.Standing.the-variants.{Empty, Served, Joined}
@@ -15,7 +15,7 @@ use Rattle.board.specs.declared.Change.{Change}
 use Rattle.board.specs.declared.Change.the-variants.{SetState, SetAuxiliary, SetLinkId, Join, EndAlerting, Release, ReleasePair}
 use Rattle.board.specs.Lookup.{isCallOf}
 use Rattle.board.proofs.Rows.{and-true}
-use Rattle.board.specs.Named.{namedCall, touched}
+use Rattle.board.specs.Named.{namedCall, subjectOf, concerns}
 use Rattle.board.specs.Changes.{mapStanding, changedCall, withState, withAuxiliary, withLinkId, joined, answered, rowAfter}
 
 abbrev pub withStanding : Standing → Row → Row
@@ -62,22 +62,22 @@ call-stays r f n Empty e = refl
 call-stays r f n (Served c) e = rw e
 call-stays r f n (Joined p a) e = refl
 
-join-stays : (a b n : ℕ) (s : Standing) → (eqb a n || eqb b n) ≡ false → joined a b n s ≡ s
+join-stays : (a b n : ℕ) (s : Standing) → (eqb n a || eqb n b) ≡ false → joined a b n s ≡ s
 join-stays a b n Empty e = refl
-join-stays a b n (Served c) e = let k = or-false (eqb a n) (eqb b n) e in rw (k .0, k .1)
+join-stays a b n (Served c) e = let k = or-false (eqb n a) (eqb n b) e in rw (eqb-sym a n ∙ k .0, eqb-sym b n ∙ k .1)
 join-stays a b n (Joined p x) e = refl
 
-alerting-stays : (l n : ℕ) (s : Standing) → eqb l n ≡ false → answered l n s ≡ s
+alerting-stays : (l n : ℕ) (s : Standing) → (eqb n l || eqb n l) ≡ false → answered l n s ≡ s
 alerting-stays l n Empty e = refl
 alerting-stays l n (Served c) e = refl
-alerting-stays l n (Joined p x) e = rw e (ap (λ (b : Bool). Joined p b) (and-true x))
+alerting-stays l n (Joined p x) e = rw (eqb-sym l n ∙ or-false (eqb n l) (eqb n l) e .0) (ap (λ (b : Bool). Joined p b) (and-true x))
 
-pub untouched : (c : Change) (row : Row) → touched c row ≡ false → rowAfter c row ≡ row
+pub untouched : (c : Change) (row : Row) → concerns (subjectOf c) row ≡ false → rowAfter c row ≡ row
 unfolding rowAfter
 untouched (SetState r s) row e = sym (standing-kept (changedCall r (withState s)) row (call-stays r (withState s) (row .leg) (row .standing) e))
 untouched (SetAuxiliary r a) row e = sym (standing-kept (changedCall r (withAuxiliary a)) row (call-stays r (withAuxiliary a) (row .leg) (row .standing) e))
 untouched (SetLinkId r l) row e = sym (standing-kept (changedCall r (withLinkId l)) row (call-stays r (withLinkId l) (row .leg) (row .standing) e))
 untouched (Join a b) row e = sym (standing-kept (joined a b) row (join-stays a b (row .leg) (row .standing) e))
 untouched (EndAlerting l) row e = sym (standing-kept (answered l) row (alerting-stays l (row .leg) (row .standing) e))
-untouched (Release l) row e = rw e
+untouched (Release l) row e = rw (or-false (eqb (row .leg) l) (eqb (row .leg) l) e .0)
 untouched (ReleasePair l p) row e = rw e

@@ -10,6 +10,8 @@ use Rattle.board.specs.declared.Change.{Change}
 use Rattle.board.specs.declared.Change.the-variants.{SetState, SetAuxiliary, SetLinkId, Join, EndAlerting, Release, ReleasePair}
 use Rattle.board.specs.declared.changing.Named.{Named}
 use Rattle.board.specs.declared.changing.Named.the-variants.{This, Other}
+use Rattle.board.specs.declared.changing.Subject.{Subject}
+use Rattle.board.specs.declared.changing.Subject.the-variants as subject
 use Rattle.board.specs.Lookup.{hasCallOf}
 
 abbrev pub namedCall : ℕ → Standing → Named
@@ -17,12 +19,17 @@ namedCall r Empty = Other
 namedCall r (Served c) = cond (eqb r (c .reference .0)) (This c) Other
 namedCall r (Joined p a) = Other
 
+-- whom a change concerns: the call with a reference, or the rows of one or two legs; one leg is given twice
+abbrev pub subjectOf : Change → Subject
+subjectOf (SetState r s) = subject.Call r
+subjectOf (SetAuxiliary r a) = subject.Call r
+subjectOf (SetLinkId r l) = subject.Call r
+subjectOf (Join a b) = subject.Legs a b
+subjectOf (EndAlerting l) = subject.Legs l l
+subjectOf (Release l) = subject.Legs l l
+subjectOf (ReleasePair l p) = subject.Legs l p
+
 -- a row that a change may make another of; all others stay (proofs/Standings: `untouched`)
-abbrev pub touched : Change → Row → Bool
-touched (SetState r s) row = hasCallOf (r .0) row
-touched (SetAuxiliary r a) row = hasCallOf (r .0) row
-touched (SetLinkId r l) row = hasCallOf (r .0) row
-touched (Join a b) row = eqb a (row .leg) || eqb b (row .leg)
-touched (EndAlerting l) row = eqb l (row .leg)
-touched (Release l) row = eqb (row .leg) l
-touched (ReleasePair l p) row = eqb (row .leg) l || eqb (row .leg) p
+abbrev pub concerns : Subject → Row → Bool
+concerns (subject.Call r) row = hasCallOf (r .0) row
+concerns (subject.Legs m n) row = eqb (row .leg) m || eqb (row .leg) n

@@ -3,7 +3,7 @@ ghost use mathlib.Core.Path.{_≡_};
 ghost use lib.Dec.{eqb};
 ghost use mathlib.Core.Bool.{_||_};
 ghost use Rattle.board.specs.States.{delivered};
-ghost use Rattle.board.specs.Named.{namedCall, touched};
+ghost use Rattle.board.specs.Named.{namedCall, subjectOf, concerns};
 ghost use Rattle.board.specs.Changes.{withState, withAuxiliary, withLinkId, mapStanding, changedCall};
 ghost use Rattle.board.specs.Changes.{joined, answered, emptiedIf, rowAfter, changedRows, enter, withRows};
 use crate::AuxiliaryState;
@@ -184,19 +184,35 @@ fn row_after(row: Row, change: Change) -> Row
     }
 }
 
-// Whether a change concerns the row. Most rows it leaves as they are, and telling so is quicker than making them anew.
-fn is_touched(row: Row, change: Change) -> bool
-    ensures { λ r. ⌜ r ≡ touched change row ⌝ }
+// Whom a change concerns: the call with a reference, or the rows of one or two legs.
+enum Subject {
+    Call(CallReference),
+    Legs(u32, u32),
+}
+
+// Told once for all rows. One leg is given twice, so that a row is asked the same of one leg as of two.
+fn subject_of(change: Change) -> Subject
+    ensures { λ r. ⌜ r ≡ subjectOf change ⌝ }
+{
+    match change {
+        Change::SetState(reference, _) => Subject::Call(reference),
+        Change::SetAuxiliary(reference, _) => Subject::Call(reference),
+        Change::SetLinkId(reference, _) => Subject::Call(reference),
+        Change::Join(a, b) => Subject::Legs(a, b),
+        Change::EndAlerting(leg) => Subject::Legs(leg, leg),
+        Change::Release(leg) => Subject::Legs(leg, leg),
+        Change::ReleasePair(leg, partner) => Subject::Legs(leg, partner),
+    }
+}
+
+// Most rows stay as they are, and telling so is quicker than making them anew.
+fn is_concerned(row: Row, subject: Subject) -> bool
+    ensures { λ r. ⌜ r ≡ concerns subject row ⌝ }
 {
     let standing = row.standing;
-    match change {
-        Change::SetState(reference, _) => is_call_of(standing, reference),
-        Change::SetAuxiliary(reference, _) => is_call_of(standing, reference),
-        Change::SetLinkId(reference, _) => is_call_of(standing, reference),
-        Change::Join(a, b) => (a == row.leg) | (b == row.leg),
-        Change::EndAlerting(leg) => leg == row.leg,
-        Change::Release(leg) => row.leg == leg,
-        Change::ReleasePair(leg, partner) => (row.leg == leg) | (row.leg == partner),
+    match subject {
+        Subject::Call(reference) => is_call_of(standing, reference),
+        Subject::Legs(first, second) => (row.leg == first) | (row.leg == second),
     }
 }
 
@@ -205,9 +221,10 @@ pub fn change(board: Board, change: Change) -> Board
     ensures { λ r. ⌜ r ≡ withRows (changedRows change (board .rows)) board ⌝ }
 {
     let mut rows = board.rows;
+    let subject = subject_of(change);
     for i in 0..64 {
         let row = rows[i];
-        if is_touched(row, change) {
+        if is_concerned(row, subject) {
             rows[i] = row_after(row, change);
         }
     }

@@ -4,23 +4,33 @@ use Rattle.board.proofs.changing.change.Tie as tie
 use Prim.Native.Nat.{_≤_, _-_}
 use native.Mathlib.Omega.{arith}
 use mathlib.Core.Path.{_≡_, sym, ap, _∙_}
+use mathlib.Core.Bool.{false}
 use mathlib.Core.Logic.{⊎-elim}
 use lib.ListN.{length}
 use mathlib.Core.List.{List}
 use Rattle.octets.proofs.Places.{changedTo, changed-step, changed-kept, changed-all}
 use Rattle.board.specs.declared.Row.{Row}
+use Rattle.board.specs.declared.Change.{Change}
+use Rattle.board.specs.declared.changing.Subject.{Subject}
+use Rattle.board.specs.Named.{subjectOf, concerns}
 use Rattle.board.specs.Changes.{rowAfter, changedRows, withRows}
 use Rattle.board.proofs.Long.{board-long}
 use Rattle.board.proofs.Standings.{untouched}
 
 abbrev Inv-loop : tie.InvT-loop
-Inv-loop board change rows₀ i₀ rows i = (i ≤ 64) × (rows ≡ changedTo (rowAfter change) i (board .rows))
+Inv-loop board change rows₀ subject i₀ rows i = (i ≤ 64) × (rows ≡ changedTo (rowAfter change) i (board .rows))
 
 abbrev μ-loop : tie.MeasureT-loop
-μ-loop board change rows₀ i₀ rows i = 64 - i
+μ-loop board change rows₀ subject i₀ rows i = 64 - i
 
 long : (c : tie.Start Inv-loop μ-loop) → length (c .args .board .rows) ≡ 64
 long c = board-long (c .args .board) (c .good .0)
+
+stays : (change : Change) (row : Row) {subject : Subject} → subject ≡ subjectOf change → concerns subject row ≡ false → rowAfter change row ≡ row
+stays change row e h = untouched change row (rw e at h)
+
+subject-of-requires : tie.Need-subject-of-requires Inv-loop μ-loop
+subject-of-requires c κs = search needs
 
 loop-holds : tie.Need-loop-holds Inv-loop μ-loop
 loop-holds c = search needs
@@ -31,8 +41,8 @@ mul-row c = search needs
 array-copy-out-row : tie.Need-array-copy-out-row Inv-loop μ-loop
 array-copy-out-row c = search needs
 
-is-touched-requires : tie.Need-is-touched-requires Inv-loop μ-loop
-is-touched-requires c κs = search needs
+is-concerned-requires : tie.Need-is-concerned-requires Inv-loop μ-loop
+is-concerned-requires c κs = search needs
 
 row-after-requires : tie.Need-row-after-requires Inv-loop μ-loop
 row-after-requires c κs = search needs
@@ -51,21 +61,21 @@ loop-less c = search needs
 
 loop-again : tie.Need-loop-again Inv-loop μ-loop
 loop-again c =
-    let v = c .before .before .before .before .before .before .args in
-    let l = long (c .before .before .before .before .before .before) in
+    let v = c .before .before .before .before .before .before .before .args in
+    let l = long (c .before .before .before .before .before .before .before) in
     let at = c .before .before .before .before .loop in (
       search needs,
       ⊎-elim
           (λ t. t .2 ∙ changed-step _ _ _ _ _ _ (omega arith) (at .inv .1) (t .1 .ensures))
-          (λ t. t .1 ∙ changed-kept (rowAfter (v .change)) (at .i) (v .board .rows) _ _ (omega arith) (at .inv .1) (untouched _ _ (sym (c .before .is-touched .ensures) ∙ t .0 .left)))
+          (λ t. t .1 ∙ changed-kept (rowAfter (v .change)) (at .i) (v .board .rows) _ _ (omega arith) (at .inv .1) (stays (v .change) _ (c .before .before .before .before .before .subject-of .ensures) (sym (c .before .is-concerned .ensures) ∙ t .0 .left)))
           (c .if1 .came),
     )
 
 returns : tie.Need-returns Inv-loop μ-loop
 unfolding changedRows
 returns c =
-    let l = long (c .before .before .before .before .before) in
-    ap (λ (r : List Row). withRows r (c .before .before .before .before .before .args .board)) (c .before .before .before .loop .inv .1 ∙ changed-all (rowAfter (c .before .before .before .before .before .args .change)) (c .before .before .before .loop .i) (c .before .before .before .before .before .args .board .rows) (omega arith))
+    let l = long (c .before .before .before .before .before .before) in
+    ap (λ (r : List Row). withRows r (c .before .before .before .before .before .before .args .board)) (c .before .before .before .loop .inv .1 ∙ changed-all (rowAfter (c .before .before .before .before .before .before .args .change)) (c .before .before .before .loop .i) (c .before .before .before .before .before .before .args .board .rows) (omega arith))
 
 pub change-spec : {M : Type 1} → statement M
 change-spec =
@@ -73,10 +83,11 @@ change-spec =
     (tie.spec
     Inv-loop
     μ-loop
+    subject-of-requires
     loop-holds
     mul-row
     array-copy-out-row
-    is-touched-requires
+    is-concerned-requires
     row-after-requires
     mul-rows
     array-set-from-rows
