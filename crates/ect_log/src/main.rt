@@ -2,9 +2,6 @@
 //
 // The log is read and the text written in large pieces, so that a log of any length takes the same memory. What is
 // known is written before more of the log is waited for.
-mod playing;
-mod records;
-
 use board::Board;
 use board::Counted;
 use board::fresh;

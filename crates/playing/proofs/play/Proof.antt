@@ -1,4 +1,4 @@
--- `ect_log::playing::play` meets its contract. Assumes nothing.
+-- `playing::play` meets its contract. Assumes nothing.
 use Prim.Native.Nat.{_+_, _-_, _≤_, _<_}
 use native.Mathlib.Omega.{arith}
 use Prim.Native.Nat.{ℕ}
@@ -9,11 +9,11 @@ use mathlib.Core.List.{List, _++_}
 use lib.ListN.{length, take, drop, length-drop}
 use borrow.Author.Needs.{needs}
 use mathlib.Core.Logic.{inl, inr}
-use Rattle.ect_log.specs.Playing.{frontLength, GoesOn}
+use Rattle.playing.specs.Playing.{frontLength, GoesOn}
 use Rattle.octets.proofs.Places.{rest}
-use Rattle.ect_log.proofs.PlayingLaws.{Later, front-none, part-of, turns-on, turns-last, plays-end, pauses-end}
-use Rattle.ect_log.proofs.playing.play.Statement.{statement}
-use Rattle.ect_log.proofs.playing.play.Tie as tie
+use Rattle.playing.proofs.PlayingLaws.{Later, front-none, part-of, turns-on, turns-last, plays-end, pauses-end}
+use Rattle.playing.proofs.play.Statement.{statement}
+use Rattle.playing.proofs.play.Tie as tie
 
 abbrev Inv-loop : tie.InvT-loop
 Inv-loop before piece is-last out₀ board₀ number₀ read₀ text₀ out board number read text = (read ≤ length piece) × (text ≤ length out₀) × (length out ≡ length out₀) × ((later : List ℕ) → Later is-last later → GoesOn board₀ number₀ (piece ++ later) board number (drop read piece ++ later) (take text out))

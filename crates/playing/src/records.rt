@@ -4,7 +4,7 @@ use events::Refusal;
 ghost use mathlib.Core.Path.{_≡_};
 ghost use Rattle.rules.specs.Checks.{refusalNumber};
 ghost use Rattle.ect.specs.Contract.{answerNumber, answerCount};
-ghost use Rattle.ect_log.specs.Records.{recordLength};
+ghost use Rattle.playing.specs.Records.{recordLength};
 
 // The kind and the body that its kind has; of a kind that is not listed the kind alone, which is all that is judged.
 pub fn record_length(kind: u8) -> usize

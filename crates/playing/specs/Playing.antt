@@ -12,11 +12,11 @@ use Rattle.rules.specs.Replies.{DropOrder, octets}
 use Rattle.rules.specs.Step.{Outcome, step}
 use Rattle.log_text.specs.Lines.{recordLine}
 use Rattle.log_text.specs.Writing.{Placed}
-use Rattle.ect_log.specs.declared.playing.Told.{Told}
-use Rattle.ect_log.specs.declared.playing.Pause.{Pause}
-use Rattle.ect_log.specs.declared.playing.Pause.the-variants.{MoreInput, FullOutput, End}
-use Rattle.ect_log.specs.declared.playing.Played.{Played}
-use Rattle.ect_log.specs.Records.{recordLength}
+use Rattle.playing.specs.declared.Told.{Told}
+use Rattle.playing.specs.declared.Pause.{Pause}
+use Rattle.playing.specs.declared.Pause.the-variants.{MoreInput, FullOutput, End}
+use Rattle.playing.specs.declared.Played.{Played}
+use Rattle.playing.specs.Records.{recordLength}
 
 -- "per record `number kind returned octets`", of what the rules decide
 abbrev pub outcomeLine : ℕ → List ℕ → Outcome → List ℕ

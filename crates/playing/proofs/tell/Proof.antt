@@ -1,11 +1,11 @@
--- `ect_log::playing::tell` meets its contract. Assumes nothing.
+-- `playing::tell` meets its contract. Assumes nothing.
 use mathlib.Core.Path.{_≡_, sym}
 use lib.ListN.{length}
 use lib.Seq.{length-take-le}
 use borrow.Author.Needs.{needs}
-use Rattle.ect_log.proofs.PlayingLaws.{count-within, told, outcome-short}
-use Rattle.ect_log.proofs.playing.tell.Statement.{statement}
-use Rattle.ect_log.proofs.playing.tell.Tie as tie
+use Rattle.playing.proofs.PlayingLaws.{count-within, told, outcome-short}
+use Rattle.playing.proofs.tell.Statement.{statement}
+use Rattle.playing.proofs.tell.Tie as tie
 
 -- the reply buffer keeps its length
 long : (c : tie.After-step) → length (c .step .last .1 .1 .0) ≡ 128

@@ -19,9 +19,9 @@ use Rattle.ect.specs.declared.Stepped.{Stepped}
 use Rattle.log_text.proofs.TextLaws.{line-short}
 use Rattle.log_text.specs.Lines.{recordLine}
 use Rattle.log_text.specs.Writing.{Placed}
-use Rattle.ect_log.specs.declared.playing.Told.{Told}
-use Rattle.ect_log.specs.Records.{recordLength}
-use Rattle.ect_log.specs.Playing.{outcomeLine, TellsOf, frontLength, frontRecord, behind, stopsReading, Reads, ended, stopped, next, GoesOn, PlaysTo, pauseAtEnd, Pauses}
+use Rattle.playing.specs.declared.Told.{Told}
+use Rattle.playing.specs.Records.{recordLength}
+use Rattle.playing.specs.Playing.{outcomeLine, TellsOf, frontLength, frontRecord, behind, stopsReading, Reads, ended, stopped, next, GoesOn, PlaysTo, pauseAtEnd, Pauses}
 
 module _ {o : Outcome} {before after : List ℕ} {r : Stepped} (s : Shows o before r after) where
   -- the octets written lie in the buffer

@@ -1,7 +1,7 @@
 use borrow.Author.Needs.{needs}
-use Rattle.ect_log.proofs.playing.front_length.Statement.{statement}
-use Rattle.ect_log.proofs.playing.front_length.Tie as tie
-use Rattle.ect_log.proofs.PlayingLaws.{front-whole, front-cut, front-later}
+use Rattle.playing.proofs.front_length.Statement.{statement}
+use Rattle.playing.proofs.front_length.Tie as tie
+use Rattle.playing.proofs.PlayingLaws.{front-whole, front-cut, front-later}
 
 shared-slice-read-record-length : tie.Need-shared-slice-read-record-length
 shared-slice-read-record-length c = search needs

@@ -1,13 +1,15 @@
 // Playing the records of a piece of a log.
-use crate::records::record_length;
-use crate::records::returned;
-use crate::records::written;
+mod records;
+
 use board::Board;
 use ect::step;
+use records::record_length;
+use records::returned;
+use records::written;
 ghost use mathlib.Core.Path.{_≡_};
 ghost use Prim.Native.Nat.{_≤_, _<_};
 ghost use lib.ListN.{length, getD};
-ghost use Rattle.ect_log.specs.Playing.{Tells, frontLength, stopsReading, pauseAtEnd, Plays};
+ghost use Rattle.playing.specs.Playing.{Tells, frontLength, stopsReading, pauseAtEnd, Plays};
 
 // More than the longest line of a record: 20 digits, kind, number returned, twice 128 octets, spaces and the end.
 const LONGEST_LINE: usize = 512;
