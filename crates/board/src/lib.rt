@@ -7,6 +7,9 @@ ghost use Rattle.board.specs.Making.{emptyRow, emptyBoard, unmade, fresh
 pub mod changing;
 pub mod finding;
 
+// "at most 16": the LinkIds that may be live at a time.
+pub const MOST_LINK_IDS: usize = 16;
+
 // 0 outgoing, 1 incoming.
 pub enum Direction {
     Outgoing,

@@ -7,6 +7,7 @@ ghost use Rattle.board.specs.Counts.{counts};
 ghost use Rattle.rows.specs.Steps.{seen, meeting, among, added, counted};
 use board::Counted;
 use board::Found;
+use board::MOST_LINK_IDS;
 use board::Row;
 use board::finding::is_call_of;
 use octets::CallReference;
@@ -124,11 +125,11 @@ fn add(sums: Sums, subject: Placed, met: Met) -> Sums
     }
 }
 
-// The answer once all rows are read: at most 16 LinkIds are live.
+// The answer once all rows are read.
 fn answer(sums: Sums) -> Counted
     ensures { λ r. ⌜ r ≡ counted sums ⌝ }
 {
-    if 16 < sums.links {
+    if MOST_LINK_IDS < sums.links {
         return Counted::Unsound;
     }
     if sums.sound {

@@ -1,6 +1,7 @@
 // Serving what a component asks for, on the calls of the board.
 use board::Board;
 use board::FoundParty;
+use board::MOST_LINK_IDS;
 use board::OptionalLinkId;
 use board::Party;
 use board::finding::free_link_id;
@@ -36,7 +37,7 @@ fn assign_link_id(board: Board, identifier: IntegerOctets) -> Service
 {
     let rows = board.rows;
     let tally = add_up(rows);
-    if 16 <= tally.links {
+    if MOST_LINK_IDS <= tally.links {
         return failed(identifier, 11);
     }
     match free_link_id(board) {

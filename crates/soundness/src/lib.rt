@@ -13,6 +13,7 @@ ghost use Rattle.board.specs.Tallies.{tallyOf};
 ghost use Rattle.soundness.specs.Columns.{jointAt, anyAnswers, allAnswered};
 use board::Board;
 use board::Counted;
+use board::MOST_LINK_IDS;
 use board::Row;
 use board::Tally;
 use row_tests::is_taken;
@@ -185,7 +186,7 @@ pub fn sound_rows(rows: [Row; 64]) -> bool
     if all_differ(&links, linked) {} else {
         return false;
     }
-    if 16 < linked {
+    if MOST_LINK_IDS < linked {
         return false;
     }
     all_joined_back(&own, &partners, &alerting, joined)
