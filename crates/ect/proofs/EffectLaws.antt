@@ -31,9 +31,8 @@ use Rattle.board.specs.declared.FoundEntry.the-variants as found-entry
 use Rattle.board.specs.declared.FoundParty.{FoundParty}
 use Rattle.board.specs.declared.FoundParty.the-variants as found-party
 use Rattle.component.specs.Reading.{reading}
-use Rattle.ect.proofs.ReplyLaws.{answered, says, silent, transfer}
-use Rattle.ect.specs.Effects.{Carries, Does, effect, openedRow, candidateBy, boardBy, partyFound, entryFound}
-use Rattle.ect.specs.ReplyValues.{Adds, numberTold, Describes, transferRecords, Says}
+use Rattle.ect.specs.Effects.{Describes, Carries, Does, effect, openedRow, candidateBy, boardBy, partyFound, entryFound}
+use Rattle.replies.specs.Writing.{Says, numberTold, transferRecords}
 use Rattle.events.specs.EventRecords.{Request, request}
 use Rattle.events.specs.declared.Refusal.{Refusal}
 use Rattle.octets.specs.Lists.{any}
@@ -41,9 +40,9 @@ use Rattle.octets.specs.declared.CallReference.{CallReference}
 use Rattle.octets.specs.declared.IntegerOctets.{IntegerOctets}
 use Rattle.octets.specs.declared.LinkId.{LinkId}
 use Rattle.rules.specs.Checks.{Refuse, opened, OpenLeg, SetState, SetAuxiliary, ReleaseLeg, EndAlerting, ServeCall, Decision, decideOpen, decideProgress, mayProgress, decideHold, mayHold, decideRelease, decideAnswer, decideAlerting, decideFacility, decide}
-use Rattle.rules.specs.Replies.{Drop, Gone, numberAt, Tell, facility, transferredActive, Reply, ReplyRecord}
+use Rattle.rules.specs.Replies.{NamedFirst, Drop, Gone, numberAt, Tell, facility, transferredActive, Reply, ReplyRecord}
 use Rattle.rules.specs.Serving.{serve}
-use Rattle.rules.specs.Step.{replies, boardAfter, rowsAfter, candidateAfter, decision}
+use Rattle.rules.specs.Step.{serviceReplies, replies, boardAfter, rowsAfter, candidateAfter, decision}
 use Rattle.board.specs.declared.Change.the-variants as change
 use Rattle.component.specs.declared.Answer.{Answer as ComponentAnswer}
 use Rattle.component.specs.declared.Answer.the-variants as answer
@@ -52,22 +51,26 @@ use Rattle.ect.specs.declared.effects.Verdict.the-variants.{Accepted, Re
 use Rattle.ect.specs.declared.effects.Effect.{Effect}
 use Rattle.ect.specs.declared.effects.Deed.{Deed}
 use Rattle.ect.specs.declared.effects.Deed.the-variants.{Stay, Enter, Apply}
-use Rattle.ect.specs.declared.replies.Out.{Out}
-use Rattle.ect.specs.declared.replies.Told.{Told}
-use Rattle.ect.specs.declared.replies.FarParty.{FarParty}
+use Rattle.replies.specs.declared.Out.{Out}
+use Rattle.replies.specs.declared.Told.{Told}
+use Rattle.replies.specs.declared.FarParty.{FarParty}
 use Rattle.rules.specs.declared.Service.{Service}
 use Rattle.rules.specs.declared.Service.the-variants.{Silent, Respond, AssignLinkId, Transfer}
 
 -- ---- by parts
 
-pub refused : (c : Refusal) {row : Row} {o : Out} → o .len ≡ 0 → Does (effect (Refused c) Stay row o) (Refuse c)
-unfolding boardAfter rowsAfter candidateAfter replies
-refused c e b = record { verdict = refl; board = refl; says = silent e; room = omega arith }
+transfer-replies : {rows : List Row} {p q : Party} {f g : FarParty} (r : CallReference) (i : IntegerOctets) → Describes rows p f → Describes rows q g
+    → transferRecords r i f g ≡ serviceReplies NamedFirst rows (r .0) (Transfer p q i)
+transfer-replies r i d e = rw (d .reference, d .leg, d .alerts, d .number, e .reference, e .leg, e .alerts, e .number)
 
-pub opened-leg : (b : Board) (r l : ℕ) (d : Direction) (p n : ℕ) (ds : List ℕ) {row : Row} {o : Out} → row ≡ openedRow r l d p n ds → o .len ≡ 0 →
+pub refused : (c : Refusal) {row : Row} {o : Out} → Says o [] → Does (effect (Refused c) Stay row o) (Refuse c)
+unfolding boardAfter rowsAfter candidateAfter replies
+refused c e b = record { verdict = refl; board = refl; says = e }
+
+pub opened-leg : (b : Board) (r l : ℕ) (d : Direction) (p n : ℕ) (ds : List ℕ) {row : Row} {o : Out} → row ≡ openedRow r l d p n ds → Says o [] →
     Carries (effect Accepted Enter row o) b (OpenLeg l (opened r d) p n ds)
 unfolding boardAfter rowsAfter candidateAfter replies
-opened-leg b r l d p n ds h e = record { verdict = refl; board = ap (λ (x : Row). withRows (enter x (b .rows)) b) h; says = silent e; room = omega arith }
+opened-leg b r l d p n ds h e = record { verdict = refl; board = ap (λ (x : Row). withRows (enter x (b .rows)) b) h; says = e }
 
 -- an effect that enters no row, by what the code makes it of
 abbrev Made : Effect → Out → Deed → Type 0
@@ -77,49 +80,49 @@ module _ {e : Effect} {o : Out} where
   by-made : {d : Deed} (x : Decision) → Made e o d → Does (effect Accepted d emptyRow o) x → Does e x
   by-made x h k = subst⁻¹ (λ (v : Effect). Does v x) h k
 
-  pub state-set : (r : CallReference) (s : CallState) → Made e o (Apply (change.SetState r s)) → o .len ≡ 0 → Does e (SetState (r .0) s)
+  pub state-set : (r : CallReference) (s : CallState) → Made e o (Apply (change.SetState r s)) → Says o [] → Does e (SetState (r .0) s)
   unfolding boardAfter rowsAfter candidateAfter replies
-  state-set r s h z = by-made (SetState (r .0) s) h (λ b. record { verdict = refl; board = refl; says = silent z; room = omega arith })
+  state-set r s h z = by-made (SetState (r .0) s) h (λ b. record { verdict = refl; board = refl; says = z })
 
-  pub auxiliary-set : (r : CallReference) (a : AuxiliaryState) → Made e o (Apply (change.SetAuxiliary r a)) → o .len ≡ 0 → Does e (SetAuxiliary (r .0) a)
+  pub auxiliary-set : (r : CallReference) (a : AuxiliaryState) → Made e o (Apply (change.SetAuxiliary r a)) → Says o [] → Does e (SetAuxiliary (r .0) a)
   unfolding boardAfter rowsAfter candidateAfter replies
-  auxiliary-set r a h z = by-made (SetAuxiliary (r .0) a) h (λ b. record { verdict = refl; board = refl; says = silent z; room = omega arith })
+  auxiliary-set r a h z = by-made (SetAuxiliary (r .0) a) h (λ b. record { verdict = refl; board = refl; says = z })
 
-  pub call-released : (l : ℕ) (c : Call) {q : Out} → Made e o (Apply (change.Release l)) → q .len ≡ 0 → Adds q o (Drop (c .reference .0) ∷ []) 3 → Does e (ReleaseLeg (entry l (WithUser c)))
+  pub call-released : (l : ℕ) (c : Call) → Made e o (Apply (change.Release l)) → Says o (Drop (c .reference .0) ∷ []) → Does e (ReleaseLeg (entry l (WithUser c)))
   unfolding boardAfter rowsAfter candidateAfter replies
-  call-released l c h z k = by-made (ReleaseLeg (entry l (WithUser c))) h (λ b. record { verdict = refl; board = refl; says = says z k; room = omega (arith, k .room) })
+  call-released l c h k = by-made (ReleaseLeg (entry l (WithUser c))) h (λ b. record { verdict = refl; board = refl; says = k })
 
-  pub pair-released : (l p : ℕ) (a : Bool) {q : Out} → Made e o (Apply (change.ReleasePair l p)) → q .len ≡ 0 → Adds q o (Gone p ∷ []) 5 → Does e (ReleaseLeg (entry l (WithPartner p a)))
+  pub pair-released : (l p : ℕ) (a : Bool) → Made e o (Apply (change.ReleasePair l p)) → Says o (Gone p ∷ []) → Does e (ReleaseLeg (entry l (WithPartner p a)))
   unfolding boardAfter rowsAfter candidateAfter replies
-  pair-released l p a h z k = by-made (ReleaseLeg (entry l (WithPartner p a))) h (λ b. record { verdict = refl; board = refl; says = says z k; room = omega (arith, k .room) })
+  pair-released l p a h k = by-made (ReleaseLeg (entry l (WithPartner p a))) h (λ b. record { verdict = refl; board = refl; says = k })
 
-  pub alerting-ended : (b : Board) (l p : ℕ) {q : Out} {t : Told} → Made e o (Apply (change.EndAlerting l)) → q .len ≡ 0 → numberTold t ≡ numberAt (b .rows) l →
-      Adds q o (Tell p facility transferredActive (numberTold t) 0 ∷ []) 25 → Carries e b (EndAlerting l p)
+  pub alerting-ended : (b : Board) (l p : ℕ) {t : Told} → Made e o (Apply (change.EndAlerting l)) → numberTold t ≡ numberAt (b .rows) l →
+      Says o (Tell p facility transferredActive (numberTold t) 0 ∷ []) → Carries e b (EndAlerting l p)
   unfolding boardAfter rowsAfter candidateAfter replies
-  alerting-ended b l p h z n k =
+  alerting-ended b l p h n k =
       subst⁻¹ (λ (v : Effect). Carries v b (EndAlerting l p)) h
-      (record { verdict = refl; board = refl; says = says z (answered (b .rows) l p n k); room = omega (arith, k .room) })
+      (record { verdict = refl; board = refl; says = rw n at k })
 
   module _ (p : Party) where
-    pub served-silent : Made e o Stay → o .len ≡ 0 → Does e (ServeCall p Silent)
+    pub served-silent : Made e o Stay → Says o [] → Does e (ServeCall p Silent)
     unfolding boardAfter rowsAfter candidateAfter replies
-    served-silent h z = by-made (ServeCall p Silent) h (λ b. record { verdict = refl; board = refl; says = silent z; room = omega arith })
+    served-silent h z = by-made (ServeCall p Silent) h (λ b. record { verdict = refl; board = refl; says = z })
 
-    pub responded : (a : ComponentAnswer) {q : Out} → Made e o Stay → q .len ≡ 0 → Adds q o (Reply (p .call .reference .0) a ∷ []) 36 → Does e (ServeCall p (Respond a))
+    pub responded : (a : ComponentAnswer) → Made e o Stay → Says o (Reply (p .call .reference .0) a ∷ []) → Does e (ServeCall p (Respond a))
     unfolding boardAfter rowsAfter candidateAfter replies
-    responded a h z k = by-made (ServeCall p (Respond a)) h (λ b. record { verdict = refl; board = refl; says = says z k; room = omega (arith, k .room) })
+    responded a h k = by-made (ServeCall p (Respond a)) h (λ b. record { verdict = refl; board = refl; says = k })
 
-    pub assigned-link : (l : LinkId) (i : IntegerOctets) {q : Out} → Made e o (Apply (change.SetLinkId (p .call .reference) l)) → q .len ≡ 0 →
-        Adds q o (Reply (p .call .reference .0) (answer.LinkIdResult i l) ∷ []) 36 → Does e (ServeCall p (AssignLinkId l i))
+    pub assigned-link : (l : LinkId) (i : IntegerOctets) → Made e o (Apply (change.SetLinkId (p .call .reference) l)) →
+        Says o (Reply (p .call .reference .0) (answer.LinkIdResult i l) ∷ []) → Does e (ServeCall p (AssignLinkId l i))
     unfolding boardAfter rowsAfter candidateAfter replies
-    assigned-link l i h z k = by-made (ServeCall p (AssignLinkId l i)) h (λ b. record { verdict = refl; board = refl; says = says z k; room = omega (arith, k .room) })
+    assigned-link l i h k = by-made (ServeCall p (AssignLinkId l i)) h (λ b. record { verdict = refl; board = refl; says = k })
 
-    pub transferred-calls : (b : Board) (x y : Party) (i : IntegerOctets) {f g : FarParty} {q : Out} → Made e o (Apply (change.Join (x .leg) (y .leg))) →
-        Describes (b .rows) x f → Describes (b .rows) y g → q .len ≡ 0 → Adds q o (transferRecords (p .call .reference) i f g) 92 → Carries e b (ServeCall p (Transfer x y i))
+    pub transferred-calls : (b : Board) (x y : Party) (i : IntegerOctets) {f g : FarParty} → Made e o (Apply (change.Join (x .leg) (y .leg))) →
+        Describes (b .rows) x f → Describes (b .rows) y g → Says o (transferRecords (p .call .reference) i f g) → Carries e b (ServeCall p (Transfer x y i))
     unfolding boardAfter rowsAfter candidateAfter replies
-    transferred-calls b x y i h d₁ d₂ z k =
+    transferred-calls b x y i h d₁ d₂ k =
         subst⁻¹ (λ (v : Effect). Carries v b (ServeCall p (Transfer x y i))) h
-        (record { verdict = refl; board = refl; says = subst (λ (rs : List ReplyRecord). Says o rs) (transfer (p .call .reference) i d₁ d₂) (says z k); room = omega (arith, k .room) })
+        (record { verdict = refl; board = refl; says = subst (λ (rs : List ReplyRecord). Says o rs) (transfer-replies (p .call .reference) i d₁ d₂) k })
 
 -- ---- the board that is made
 

@@ -1,5 +1,4 @@
 -- Laws that the proofs of the code cite.
-pub mod ReplyLaws
 pub mod EffectLaws
 pub mod NumberLaws
 pub mod StepLaws

@@ -7,16 +7,16 @@ use mathlib.Core.List.{_++_, List}
 use lib.ListN.{length, drop}
 use Rattle.board.specs.Soundness.{sound}
 use Rattle.board.specs.declared.Board.{Board}
-use Rattle.ect.proofs.ReplyLaws.{copied}
 use Rattle.ect.specs.Contract.{Shows, Steps, answerNumber, answerCount}
 use Rattle.ect.specs.Effects.{Carries, verdictOf, answerTo, boardBy}
-use Rattle.ect.specs.ReplyValues.{written}
+use Rattle.replies.specs.declared.Out.{Out}
+use Rattle.replies.specs.Writing.{written, Says}
 use Rattle.ect.specs.declared.StepAnswer.{StepAnswer}
 use Rattle.ect.specs.declared.StepAnswer.the-variants.{Refused}
 use Rattle.ect.specs.declared.Stepped.{Stepped}
 use Rattle.events.specs.declared.Refusal.{Refusal}
 use Rattle.rules.specs.Checks.{refusalNumber, Refuse, Decision, OpenLeg, SetState, SetAuxiliary, ReleaseLeg, ServeCall, EndAlerting, returnedBy}
-use Rattle.rules.specs.Replies.{DropOrder, octets, NamedFirst}
+use Rattle.rules.specs.Replies.{DropOrder, ReplyRecord, octets, NamedFirst}
 use Rattle.rules.specs.Step.{replies, step, refused, Outcome, done, decision}
 use Rattle.events.specs.declared.Refusal.the-variants as refusal
 use Rattle.ect.specs.declared.effects.Verdict.{Verdict}
@@ -51,6 +51,9 @@ shows-refused c b before = record { answer = refl; count = refl; board = refl; b
 
 shows-is : {o p : Outcome} {before : List ℕ} {r : Stepped} {after : List ℕ} → o ≡ p → Shows p before r after → Shows o before r after
 shows-is {before = before} {r = r} {after = after} h k = subst⁻¹ (λ (x : Outcome). Shows x before r after) h k
+
+copied : {o : Out} {rs : List ReplyRecord} {b : List ℕ} (before : List ℕ) → Says o rs → b ≡ written o ++ drop (o .len) before → b ≡ octets rs ++ drop (length (octets rs)) before
+copied before s e = e ∙ rw (s .is, s .long)
 
 module _ (b : Board) (os before : List ℕ) where
   pub too-small : length before < 128 → Steps b os before (stepped (Refused refusal.BufferTooSmall) b) before

@@ -1,5 +1,5 @@
 -- What the code's effect of an event says: the answer, the board and the replies of a decision. No public contract cites these.
-use Prim.Native.Nat.{ℕ, _≤_}
+use Prim.Native.Nat.{ℕ}
 use mathlib.Core.Path.{_≡_}
 use mathlib.Core.List.{List}
 use mathlib.Core.Option.{Option, none, some}
@@ -19,8 +19,9 @@ use Rattle.octets.specs.declared.LinkId.{LinkId}
 use Rattle.octets.specs.Numbers.{nextLinkId}
 use Rattle.octets.specs.Lists.{any}
 use Rattle.board.specs.Entries.{hasLeg, hasReference}
+use Rattle.board.specs.States.{delivered}
 use Rattle.board.specs.Changes.{full, enter, changedRows, withRows}
-use Rattle.rules.specs.Replies.{NamedFirst}
+use Rattle.rules.specs.Replies.{NamedFirst, numberAt}
 use Rattle.rules.specs.Checks.{Decision, Refuse, OpenLeg, SetState, SetAuxiliary, ReleaseLeg, ServeCall, EndAlerting, opened, named, decideOpen, decideFacility}
 use Rattle.rules.specs.Step.{boardAfter, replies}
 use Rattle.ect.specs.declared.StepAnswer.{StepAnswer}
@@ -30,9 +31,10 @@ use Rattle.ect.specs.declared.effects.Verdict.the-variants.{Accepted, Re
 use Rattle.ect.specs.declared.effects.Deed.{Deed}
 use Rattle.ect.specs.declared.effects.Deed.the-variants.{Stay, Enter, Apply}
 use Rattle.ect.specs.declared.effects.Effect.{Effect}
-use Rattle.ect.specs.declared.replies.Out.{Out}
+use Rattle.replies.specs.declared.Out.{Out}
+use Rattle.replies.specs.declared.FarParty.{FarParty}
+use Rattle.replies.specs.Writing.{Says, numberTold}
 use Rattle.serving.specs.Parties.{entriesOf}
-use Rattle.ect.specs.ReplyValues.{Says}
 
 -- the row that an Open enters
 abbrev pub openedRow : ℕ → ℕ → Direction → ℕ → ℕ → List ℕ → Row
@@ -76,11 +78,17 @@ pub record Carries (r : Effect) (b : Board) (d : Decision) : Type 0 where
   pub verdict : r .verdict ≡ verdictOf d
   pub board : boardBy (r .deed) (r .row) b ≡ boardAfter d b
   pub says : Says (r .out) (replies NamedFirst (b .rows) d)
-  pub room : r .out .len ≤ 92
 
 -- the effect is that of the decision on any board
 abbrev pub Does : Effect → Decision → Type 0
 Does r d = (b : Board) → Carries r b d
+
+-- the value f stands for the party p at its row
+pub record Describes (rows : List Row) (p : Party) (f : FarParty) : Type 0 where
+  pub reference : f .reference ≡ p .call .reference
+  pub leg : f .leg ≡ p .leg
+  pub alerts : f .alerts ≡ delivered (p .call)
+  pub number : numberTold (f .number) ≡ numberAt rows (p .leg)
 
 -- the party or the entry that a search has found
 abbrev pub partyFound : FoundParty → Option Party

@@ -1,3 +1,2 @@
-pub mod ReplyValues
 pub mod Effects
 pub mod Contract

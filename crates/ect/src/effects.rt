@@ -1,10 +1,5 @@
 // What an event comes to: whether it is refused, what it does to the board, and the replies.
 use crate::digits::digits_of;
-use crate::replies::FarParty;
-use crate::replies::Out;
-use crate::replies::Told;
-use crate::replies::empty;
-use crate::replies::number_of;
 use board::AuxiliaryState;
 use board::Board;
 use board::Call;
@@ -32,6 +27,15 @@ use events::records::read_request;
 use octets::CallReference;
 use octets::IntegerOctets;
 use octets::LinkId;
+use replies::FarParty;
+use replies::Out;
+use replies::Told;
+use replies::answer_told;
+use replies::drop_notice;
+use replies::gone;
+use replies::nothing;
+use replies::number_of;
+use replies::reply;
 use row_tests::is_holdable;
 use rules::Service;
 use serving::parties::entry_at;
@@ -42,9 +46,9 @@ ghost use Rattle.rules.specs.Replies.{numberAt};
 ghost use Rattle.rules.specs.Checks.{Refuse, ServeCall, firstState, mayProgress, mayHold};
 ghost use Rattle.rules.specs.Checks.{decideProgress, decideHold, decideRelease, decideAnswer};
 ghost use Rattle.rules.specs.Step.{decision};
-ghost use Rattle.ect.specs.ReplyValues.{numberTold, Describes};
+ghost use Rattle.replies.specs.Writing.{numberTold};
 ghost use Rattle.board.specs.Making.{emptyRow};
-ghost use Rattle.ect.specs.Effects.{Carries, Does, effect, openedRow, openOn, facilityOn};
+ghost use Rattle.ect.specs.Effects.{Describes, Carries, Does, effect, openedRow, openOn, facilityOn};
 ghost use Rattle.ect.specs.Effects.{partyFound, entryFound, candidateBy, boardBy};
 
 pub enum Verdict {
@@ -87,7 +91,7 @@ fn refuse(refusal: Refusal) -> Effect
         verdict: Verdict::Refused(refusal),
         deed: Deed::Stay,
         row: empty_row(),
-        out: empty(),
+        out: nothing(),
     }
 }
 
@@ -152,7 +156,7 @@ fn open(
         verdict: Verdict::Accepted,
         deed: Deed::Enter,
         row: opened_row(r, l, d, p, n, digits),
-        out: empty(),
+        out: nothing(),
     }
 }
 
@@ -196,7 +200,7 @@ fn progress(found: FoundParty, reference: CallReference, state: CallState) -> Ef
     let call = party.call;
     let from = call.state;
     if may_progress(from, state) {
-        return accept(Deed::Apply(Change::SetState(reference, state)), empty());
+        return accept(Deed::Apply(Change::SetState(reference, state)), nothing());
     }
     refuse(Refusal::NotPermitted)
 }
@@ -244,7 +248,7 @@ fn hold(found: FoundParty, reference: CallReference, auxiliary: AuxiliaryState) 
     if is_holdable(state) & may_hold(from, auxiliary) {
         return accept(
             Deed::Apply(Change::SetAuxiliary(reference, auxiliary)),
-            empty(),
+            nothing(),
         );
     }
     refuse(Refusal::NotPermitted)
@@ -262,7 +266,7 @@ fn release(found: FoundEntry) -> Effect
             let reference = call.reference;
             accept(
                 Deed::Apply(Change::Release(entry.leg)),
-                empty().push_drop(reference),
+                drop_notice(reference),
             )
         }
         Connection::WithPartner {
@@ -270,7 +274,7 @@ fn release(found: FoundEntry) -> Effect
             alerting: _,
         } => accept(
             Deed::Apply(Change::ReleasePair(entry.leg, partner)),
-            empty().push_gone(partner),
+            gone(partner),
         ),
     }
 }
@@ -296,7 +300,7 @@ fn answer(board: Board, found: FoundEntry, leg: u32) -> Effect
         let number = number_at(board, leg);
         return accept(
             Deed::Apply(Change::EndAlerting(leg)),
-            empty().push_answer_told(partner, number),
+            answer_told(partner, number),
         );
     }
     refuse(Refusal::NotPermitted)
@@ -333,7 +337,7 @@ fn transfer(
     let b = far_party(board, second);
     accept(
         Deed::Apply(Change::Join(first.leg, second.leg)),
-        empty().push_transfer(reference, identifier, a, b),
+        replies::transfer(reference, identifier, a, b),
     )
 }
 
@@ -344,11 +348,11 @@ fn carry_out(board: Board, party: Party, service: Service) -> Effect
     let call = party.call;
     let reference = call.reference;
     match service {
-        Service::Silent => accept(Deed::Stay, empty()),
-        Service::Respond(a) => accept(Deed::Stay, empty().push_reply(reference, a)),
+        Service::Silent => accept(Deed::Stay, nothing()),
+        Service::Respond(a) => accept(Deed::Stay, reply(reference, a)),
         Service::AssignLinkId(id, identifier) => accept(
             Deed::Apply(Change::SetLinkId(reference, id)),
-            empty().push_reply(reference, Answer::LinkIdResult(identifier, id)),
+            reply(reference, Answer::LinkIdResult(identifier, id)),
         ),
         Service::Transfer {
             named: first,

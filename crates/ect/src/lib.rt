@@ -4,15 +4,18 @@ use effects::Verdict;
 use effects::done;
 use effects::effect_of;
 use events::Refusal;
-use replies::copy_out;
+use replies::Out;
 use soundness::sound;
+ghost use Prim.Native.Nat.{_≤_};
 ghost use mathlib.Core.Path.{_≡_};
+ghost use mathlib.Core.List.{_++_};
+ghost use lib.ListN.{length, drop};
+ghost use Rattle.replies.specs.Writing.{written};
 ghost use Rattle.ect.specs.Contract.{Steps};
 ghost use Rattle.ect.specs.Effects.{answerTo};
 
 mod digits;
 mod effects;
-mod replies;
 
 // Accepted, with the number of octets written; or refused.
 pub enum StepAnswer {
@@ -33,6 +36,21 @@ fn answer_to(verdict: Verdict, n: usize) -> StepAnswer
         Verdict::Accepted => StepAnswer::Accepted(n),
         Verdict::Refused(refusal) => StepAnswer::Refused(refusal),
     }
+}
+
+// Copies what is written to the front of a buffer, keeps what lies beyond, and returns how many octets that is.
+fn copy_out(reply: &mut [u8], out: Out) -> usize
+    requires { ⌜ (out .len ≤ 128) × (out .len ≤ length (now reply)) ⌝ }
+    ensures { λ r. ⌜ (r ≡ out .len) × (now (reply .exit) ≡ written out ++ drop (out .len) (now (reply .entry))) ⌝ }
+{
+    let n = out.len;
+    let octets = out.octets;
+    let mut i = 0;
+    while i < n {
+        reply[i] = octets[i];
+        i += 1;
+    }
+    n
 }
 
 // The board after the event, with the replies in the front of the buffer; or a refusal that leaves both.

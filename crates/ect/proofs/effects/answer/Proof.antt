@@ -34,22 +34,19 @@ returns-2 c =
 number-at-requires : tie.Need-number-at-requires
 number-at-requires c κs = search needs
 
-empty-requires : tie.Need-empty-requires
-empty-requires c κs = search needs
-
-push-answer-told-requires : tie.Need-push-answer-told-requires
-push-answer-told-requires c κs = search needs
+answer-told-requires : tie.Need-answer-told-requires
+answer-told-requires c κs = search needs
 
 accept-requires : tie.Need-accept-requires
 accept-requires c κs = search needs
 
 returns-3 : tie.Need-returns-3
 returns-3 c =
-    let s = c .before .before .before .before .before .before .before .before .before .before .before .args in
-    let x = c .before .before .before .before .before .before .connection .given in
-    answer-some (s .leg) _ (c .before .before .before .before .before .before .before .before .before .found .given .1) (x .1)
-    (alerting-yes (s .leg) (x .0 .0) (x .0 .1 .0) (c .before .before .before .before .if1 .taken)
-    (alerting-ended (s .board) (s .leg) (x .0 .0) (c .accept .ensures) (c .before .before .empty .ensures) (c .before .before .before .number-at .ensures) (c .before .push-answer-told .ensures)))
+    let s = c .before .before .before .before .before .before .before .before .before .before .args in
+    let x = c .before .before .before .before .before .connection .given in
+    answer-some (s .leg) _ (c .before .before .before .before .before .before .before .before .found .given .1) (x .1)
+    (alerting-yes (s .leg) (x .0 .0) (x .0 .1 .0) (c .before .before .before .if1 .taken)
+    (alerting-ended (s .board) (s .leg) (x .0 .0) (c .accept .ensures) (c .before .before .number-at .ensures) (c .before .answer-told .ensures)))
 
 refuse-requires-3 : tie.Need-refuse-requires-3
 refuse-requires-3 c κs = search needs
@@ -74,8 +71,7 @@ answer-spec =
     refuse-requires-2
     returns-2
     number-at-requires
-    empty-requires
-    push-answer-told-requires
+    answer-told-requires
     accept-requires
     returns-3
     refuse-requires-3

@@ -7,8 +7,8 @@ use Rattle.ect.proofs.effects.carry_out.Tie as tie
 enum-told : tie.Need-enum-told
 enum-told c = search needs
 
-empty-requires : tie.Need-empty-requires
-empty-requires c κs = search needs
+nothing-requires : tie.Need-nothing-requires
+nothing-requires c κs = search needs
 
 accept-requires : tie.Need-accept-requires
 accept-requires c κs = search needs
@@ -16,11 +16,8 @@ accept-requires c κs = search needs
 enum-known-service : tie.Need-enum-known-service
 enum-known-service c = search needs
 
-empty-requires-2 : tie.Need-empty-requires-2
-empty-requires-2 c κs = search needs
-
-push-reply-requires : tie.Need-push-reply-requires
-push-reply-requires c κs = search needs
+reply-requires : tie.Need-reply-requires
+reply-requires c κs = search needs
 
 accept-requires-2 : tie.Need-accept-requires-2
 accept-requires-2 c κs = search needs
@@ -28,11 +25,8 @@ accept-requires-2 c κs = search needs
 enum-known-service-2 : tie.Need-enum-known-service-2
 enum-known-service-2 c = search needs
 
-empty-requires-3 : tie.Need-empty-requires-3
-empty-requires-3 c κs = search needs
-
-push-reply-requires-2 : tie.Need-push-reply-requires-2
-push-reply-requires-2 c κs = search needs
+reply-requires-2 : tie.Need-reply-requires-2
+reply-requires-2 c κs = search needs
 
 accept-requires-3 : tie.Need-accept-requires-3
 accept-requires-3 c κs = search needs
@@ -46,20 +40,20 @@ transfer-requires c κs = search needs
 returns : tie.Need-returns
 returns c =
     let s = c .before .before .before .before .before .before .args in
-    service-is (s .party) (sym (c .before .before .enum-told .given .1)) (served-silent (s .party) (c .accept .ensures) (c .before .empty .ensures) (s .board))
+    service-is (s .party) (sym (c .before .before .enum-told .given .1)) (served-silent (s .party) (c .accept .ensures) (c .before .nothing .ensures) (s .board))
 
 returns-2 : tie.Need-returns-2
 returns-2 c =
-    let s = c .before .before .before .before .before .before .before .before .args in
-    let x = c .before .before .before .before .service .given in
-    service-is (s .party) (sym (x .1)) (responded (s .party) (x .0 .0) (c .accept2 .ensures) (c .before .before .empty2 .ensures) (c .before .push-reply .ensures) (s .board))
+    let s = c .before .before .before .before .before .before .before .args in
+    let x = c .before .before .before .service .given in
+    service-is (s .party) (sym (x .1)) (responded (s .party) (x .0 .0) (c .accept2 .ensures) (c .before .reply .ensures) (s .board))
 
 returns-3 : tie.Need-returns-3
 returns-3 c =
-    let s = c .before .before .before .before .before .before .before .before .args in
-    let x = c .before .before .before .before .service2 .given in
+    let s = c .before .before .before .before .before .before .before .args in
+    let x = c .before .before .before .service2 .given in
     service-is (s .party) (sym (x .1))
-    (assigned-link (s .party) (x .0 .0) (x .0 .1 .0) (c .accept3 .ensures) (c .before .before .empty3 .ensures) (c .before .push-reply2 .ensures) (s .board))
+    (assigned-link (s .party) (x .0 .0) (x .0 .1 .0) (c .accept3 .ensures) (c .before .reply2 .ensures) (s .board))
 
 returns-4 : tie.Need-returns-4
 returns-4 c = service-is (c .before .before .before .before .before .before .args .party) (sym (c .before .before .service3 .given .1)) (c .transfer .ensures)
@@ -69,15 +63,13 @@ carry-out-spec =
     tie.close
     (tie.spec
     enum-told
-    empty-requires
+    nothing-requires
     accept-requires
     enum-known-service
-    empty-requires-2
-    push-reply-requires
+    reply-requires
     accept-requires-2
     enum-known-service-2
-    empty-requires-3
-    push-reply-requires-2
+    reply-requires-2
     accept-requires-3
     enum-known-service-3
     transfer-requires

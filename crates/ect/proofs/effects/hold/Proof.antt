@@ -24,8 +24,8 @@ is-holdable-requires c κs = search needs
 may-hold-requires : tie.Need-may-hold-requires
 may-hold-requires c κs = search needs
 
-empty-requires : tie.Need-empty-requires
-empty-requires c κs = search needs
+nothing-requires : tie.Need-nothing-requires
+nothing-requires c κs = search needs
 
 accept-requires : tie.Need-accept-requires
 accept-requires c κs = search needs
@@ -34,7 +34,7 @@ returns-2 : tie.Need-returns-2
 returns-2 c =
     let s = c .before .before .before .before .before .before .before .before .before .args in
     hold-by (s .reference .0) (s .auxiliary) true (c .before .before .before .before .before .before .before .found .given .1) (rw (c .before .before .before .before .is-holdable .ensures, c .before .before .before .may-hold .ensures) at (c .before .before .if1 .taken))
-    (auxiliary-set (s .reference) (s .auxiliary) (c .accept .ensures) (c .before .empty .ensures))
+    (auxiliary-set (s .reference) (s .auxiliary) (c .accept .ensures) (c .before .nothing .ensures))
 
 refuse-requires-2 : tie.Need-refuse-requires-2
 refuse-requires-2 c κs = search needs
@@ -54,7 +54,7 @@ hold-spec =
     returns
     is-holdable-requires
     may-hold-requires
-    empty-requires
+    nothing-requires
     accept-requires
     returns-2
     refuse-requires-2

@@ -52,8 +52,8 @@ returns-3 c =
 opened-row-requires : tie.Need-opened-row-requires
 opened-row-requires c κs = search needs
 
-empty-requires : tie.Need-empty-requires
-empty-requires c κs = search needs
+nothing-requires : tie.Need-nothing-requires
+nothing-requires c κs = search needs
 
 returns-4 : tie.Need-returns-4
 returns-4 c =
@@ -64,7 +64,7 @@ returns-4 c =
     (leg-seen (s .l) (s .r) (s .board .rows) look (c .before .before .before .before .before .if1 .left))
     (reference-seen (s .l) (s .r) (s .board .rows) look (c .before .before .before .before .if2 .left))
     (full-seen (s .l) (s .r) (s .board .rows) look (c .before .before .if3 .left))
-    (opened-leg (s .board) (s .r .0) (s .l) (s .d) (s .p) (s .n) (s .digits) (c .before .opened-row .ensures) (c .empty .ensures))
+    (opened-leg (s .board) (s .r .0) (s .l) (s .d) (s .p) (s .n) (s .digits) (c .before .opened-row .ensures) (c .nothing .ensures))
 
 pub open-spec : {M : Type 1} → statement M
 open-spec =
@@ -78,5 +78,5 @@ open-spec =
     refuse-requires-3
     returns-3
     opened-row-requires
-    empty-requires
+    nothing-requires
     returns-4)

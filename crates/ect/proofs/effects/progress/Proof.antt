@@ -22,8 +22,8 @@ returns c =
 may-progress-requires : tie.Need-may-progress-requires
 may-progress-requires c κs = search needs
 
-empty-requires : tie.Need-empty-requires
-empty-requires c κs = search needs
+nothing-requires : tie.Need-nothing-requires
+nothing-requires c κs = search needs
 
 accept-requires : tie.Need-accept-requires
 accept-requires c κs = search needs
@@ -32,7 +32,7 @@ returns-2 : tie.Need-returns-2
 returns-2 c =
     let s = c .before .before .before .before .before .before .before .before .args in
     progress-by (s .reference .0) (s .state) true (c .before .before .before .before .before .before .found .given .1) (told (c .before .before .before .may-progress .ensures) (c .before .before .if1 .taken))
-    (state-set (s .reference) (s .state) (c .accept .ensures) (c .before .empty .ensures))
+    (state-set (s .reference) (s .state) (c .accept .ensures) (c .before .nothing .ensures))
 
 refuse-requires-2 : tie.Need-refuse-requires-2
 refuse-requires-2 c κs = search needs
@@ -51,7 +51,7 @@ progress-spec =
     refuse-requires
     returns
     may-progress-requires
-    empty-requires
+    nothing-requires
     accept-requires
     returns-2
     refuse-requires-2

@@ -6,11 +6,11 @@ use Rattle.ect.proofs.effects.refuse.Tie as tie
 empty-row-requires : tie.Need-empty-row-requires
 empty-row-requires c κs = search needs
 
-empty-requires : tie.Need-empty-requires
-empty-requires c κs = search needs
+nothing-requires : tie.Need-nothing-requires
+nothing-requires c κs = search needs
 
 returns : tie.Need-returns
-returns c = refused (c .before .before .args .refusal) (c .empty .ensures)
+returns c = refused (c .before .before .args .refusal) (c .nothing .ensures)
 
 pub refuse-spec : {M : Type 1} → statement M
-refuse-spec = tie.close (tie.spec empty-row-requires empty-requires returns)
+refuse-spec = tie.close (tie.spec empty-row-requires nothing-requires returns)

@@ -18,11 +18,8 @@ returns c = release-none (c .before .enum-told .given .1) (c .refuse .ensures)
 enum-known-connection : tie.Need-enum-known-connection
 enum-known-connection c = search needs
 
-empty-requires : tie.Need-empty-requires
-empty-requires c κs = search needs
-
-push-drop-requires : tie.Need-push-drop-requires
-push-drop-requires c κs = search needs
+drop-notice-requires : tie.Need-drop-notice-requires
+drop-notice-requires c κs = search needs
 
 accept-requires : tie.Need-accept-requires
 accept-requires c κs = search needs
@@ -30,25 +27,22 @@ accept-requires c κs = search needs
 enum-known-connection-2 : tie.Need-enum-known-connection-2
 enum-known-connection-2 c = search needs
 
-empty-requires-2 : tie.Need-empty-requires-2
-empty-requires-2 c κs = search needs
-
-push-gone-requires : tie.Need-push-gone-requires
-push-gone-requires c κs = search needs
+gone-requires : tie.Need-gone-requires
+gone-requires c κs = search needs
 
 accept-requires-2 : tie.Need-accept-requires-2
 accept-requires-2 c κs = search needs
 
 returns-2 : tie.Need-returns-2
 returns-2 c =
-    release-some _ (c .before .before .before .before .before .before .before .before .found .given .1) (c .before .before .before .before .before .connection .given .1)
-    (call-released (c .before .before .before .before .before .before .before .before .found .given .0 .0 .leg) (c .before .before .before .before .before .connection .given .0 .0) (c .accept .ensures) (c .before .before .empty .ensures) (c .before .push-drop .ensures))
+    release-some _ (c .before .before .before .before .before .before .before .found .given .1) (c .before .before .before .before .connection .given .1)
+    (call-released (c .before .before .before .before .before .before .before .found .given .0 .0 .leg) (c .before .before .before .before .connection .given .0 .0) (c .accept .ensures) (c .before .drop-notice .ensures))
 
 returns-3 : tie.Need-returns-3
 returns-3 c =
-    release-some _ (c .before .before .before .before .before .before .before .found .given .1) (c .before .before .before .before .connection2 .given .1)
-    (pair-released (c .before .before .before .before .before .before .before .found .given .0 .0 .leg) (c .before .before .before .before .connection2 .given .0 .0) (c .before .before .before .before .connection2 .given .0 .1 .0) (c .accept2 .ensures) (c .before .before .empty2 .ensures)
-    (c .before .push-gone .ensures))
+    release-some _ (c .before .before .before .before .before .before .found .given .1) (c .before .before .before .connection2 .given .1)
+    (pair-released (c .before .before .before .before .before .before .found .given .0 .0 .leg) (c .before .before .before .connection2 .given .0 .0) (c .before .before .before .connection2 .given .0 .1 .0) (c .accept2 .ensures)
+    (c .before .gone .ensures))
 
 pub release-spec : {M : Type 1} → statement M
 release-spec =
@@ -59,12 +53,10 @@ release-spec =
     refuse-requires
     returns
     enum-known-connection
-    empty-requires
-    push-drop-requires
+    drop-notice-requires
     accept-requires
     enum-known-connection-2
-    empty-requires-2
-    push-gone-requires
+    gone-requires
     accept-requires-2
     returns-2
     returns-3)

@@ -9,20 +9,17 @@ far-party-requires c κs = search needs
 far-party-requires-2 : tie.Need-far-party-requires-2
 far-party-requires-2 c κs = search needs
 
-empty-requires : tie.Need-empty-requires
-empty-requires c κs = search needs
-
-push-transfer-requires : tie.Need-push-transfer-requires
-push-transfer-requires c κs = search needs
+transfer-requires : tie.Need-transfer-requires
+transfer-requires c κs = search needs
 
 accept-requires : tie.Need-accept-requires
 accept-requires c κs = search needs
 
 returns : tie.Need-returns
 returns c =
-    let s = c .before .before .before .before .before .before .before .args in
-    transferred-calls (s .party) (s .board) (s .first) (s .second) (s .identifier) (c .accept .ensures) (c .before .before .before .before .far-party .ensures) (c .before .before .before .far-party2 .ensures)
-    (c .before .before .empty .ensures) (c .before .push-transfer .ensures)
+    let s = c .before .before .before .before .before .before .args in
+    transferred-calls (s .party) (s .board) (s .first) (s .second) (s .identifier) (c .accept .ensures) (c .before .before .before .far-party .ensures) (c .before .before .far-party2 .ensures)
+    (c .before .transfer .ensures)
 
 pub transfer-spec : {M : Type 1} → statement M
 transfer-spec =
@@ -30,7 +27,6 @@ transfer-spec =
     (tie.spec
     far-party-requires
     far-party-requires-2
-    empty-requires
-    push-transfer-requires
+    transfer-requires
     accept-requires
     returns)

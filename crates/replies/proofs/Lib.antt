@@ -1,0 +1,2 @@
+-- Laws that the proofs of the code cite.
+pub mod WritingLaws

@@ -1,0 +1,47 @@
+-- What the replies of an event say, and what each writer of a record adds. No public contract cites `Grown` and `Adds`.
+use Prim.Native.Nat.{ℕ, _+_, _≤_}
+use mathlib.Core.Path.{_≡_}
+use mathlib.Core.List.{List, [], _∷_, _++_}
+use lib.ListN.{length, take}
+use Rattle.octets.specs.declared.CallReference.{CallReference}
+use Rattle.octets.specs.declared.IntegerOctets.{IntegerOctets}
+use Rattle.component.specs.declared.Answer.the-variants as answer
+use Rattle.replies.specs.declared.Out.{Out}
+use Rattle.replies.specs.declared.Told.{Told}
+use Rattle.replies.specs.declared.FarParty.{FarParty}
+use Rattle.rules.specs.Replies.{Number, ReplyRecord, Reply, octets, NamedFirst, drops, told}
+
+-- the octets written so far
+abbrev pub written : Out → List ℕ
+written o = take (o .len) (o .octets)
+
+-- r has what o has, and then more
+pub record Grown (o r : Out) (more : List ℕ) : Type 0 where
+  pub is : written r ≡ written o ++ more
+  pub long : r .len ≡ o .len + length more
+
+-- r has what o has, and then these records, in n octets
+pub record Adds (o r : Out) (rs : List ReplyRecord) (n : ℕ) : Type 0 where
+  pub grown : Grown o r (octets rs)
+  pub room : r .len ≡ o .len + n
+
+-- o has these records and nothing else, in at most 92 octets
+pub record Says (o : Out) (rs : List ReplyRecord) : Type 0 where
+  pub is : written o ≡ octets rs
+  pub long : o .len ≡ length (octets rs)
+  pub room : o .len ≤ 92
+
+abbrev pub numberTold : Told → Number
+numberTold t = record { mark = t .mark; count = t .count; digits = t .digits }
+
+-- each is told of the other, the named one first
+abbrev pub transferTells : FarParty → FarParty → List ReplyRecord
+transferTells named other =
+    told (named .leg) (named .alerts) (other .alerts) (numberTold (other .number))
+    ∷ told (other .leg) (other .alerts) (named .alerts) (numberTold (named .number))
+    ∷ []
+
+-- the records of a transfer, the Reply on the reference r, the named one's Drop first
+abbrev pub transferRecords : CallReference → IntegerOctets → FarParty → FarParty → List ReplyRecord
+transferRecords r i named other =
+    Reply (r .0) (answer.Result i) ∷ (drops NamedFirst (named .reference .0) (other .reference .0) ++ transferTells named other)
