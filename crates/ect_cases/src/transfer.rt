@@ -45,6 +45,23 @@ fn open(board: Board, r: u8, incoming: u8) -> Board {
     event(board, &octets)
 }
 
+// EctExecute on the call with that reference: a1 06, identifier 02 01 05, operation 02 01 06.
+fn execute(board: Board, r: u8) -> Board {
+    let mut octets = [0u8; 36];
+    octets[0] = 5;
+    octets[2] = r;
+    octets[3] = 8;
+    octets[4] = 0xa1;
+    octets[5] = 6;
+    octets[6] = 2;
+    octets[7] = 1;
+    octets[8] = 5;
+    octets[9] = 2;
+    octets[10] = 1;
+    octets[11] = 6;
+    event(board, &octets)
+}
+
 pub fn ward_transfer(fresh: Board) {
     let caller = open(fresh, 1, 1);
     let talking = event(caller, b"\x02\x00\x01\x0a");
@@ -52,9 +69,6 @@ pub fn ward_transfer(fresh: Board) {
     let held = event(asked, b"\x03\x00\x01\x02");
     let ward = open(held, 2, 0);
     let alerting = event(ward, b"\x02\x00\x02\x04");
-    let joined = event(
-        alerting,
-        b"\x05\x00\x01\x08\xa1\x06\x02\x01\x05\x02\x01\x06\x00\x00\x00\x00\x00\x00\x00\x00\x00\x00\x00\x00\x00\x00\x00\x00\x00\x00\x00\x00\x00\x00\x00\x00",
-    );
+    let joined = execute(alerting, 1);
     event(joined, b"\x06\x00\x00\x00\x02");
 }

@@ -87,6 +87,10 @@ Pauses MoreInput last left room written = (last ≡ false) × (length left < rec
 Pauses FullOutput last left room written = room < written + 512
 Pauses End last left room written = Unit {0}
 
+-- where playing pauses, and why
+abbrev pub pausedAt : Board → ℕ → ℕ → ℕ → Pause → Played
+pausedAt b n r w p = record { board = b; number = n; read = r; written = w; pause = p }
+
 -- what `play` makes of a piece of a log, whatever comes behind the piece; behind the last one comes nothing
 pub record Plays (b : Board) (n : ℕ) (piece : List ℕ) (last : Bool) (before after : List ℕ) (r : Played) : Type 0 where
   pub read : r .read ≤ length piece

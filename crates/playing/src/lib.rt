@@ -9,7 +9,7 @@ use records::written;
 ghost use mathlib.Core.Path.{_≡_};
 ghost use Prim.Native.Nat.{_≤_, _<_};
 ghost use lib.ListN.{length, getD};
-ghost use Rattle.playing.specs.Playing.{Tells, frontLength, stopsReading, pauseAtEnd, Plays};
+ghost use Rattle.playing.specs.Playing.{Tells, frontLength, stopsReading, pauseAtEnd, pausedAt, Plays};
 
 // More than the longest line of a record: 20 digits, kind, number returned, twice 128 octets, spaces and the end.
 const LONGEST_LINE: usize = 512;
@@ -90,6 +90,18 @@ fn stops(returned: u8) -> bool
     (returned == 3) | (returned == 4)
 }
 
+fn paused(board: Board, number: u64, read: usize, written: usize, pause: Pause) -> Played
+    ensures { λ r. ⌜ r ≡ pausedAt board number read written pause ⌝ }
+{
+    Played {
+        board,
+        number,
+        read,
+        written,
+        pause,
+    }
+}
+
 // Plays the records of a piece. A number that 64 bits do not hold is not given: the reading ends at the one before.
 pub fn play(start: Board, before: u64, piece: &[u8], is_last: bool, out: &mut [u8]) -> Played
     ensures { λ r. ⌜ Plays start before (now (piece .entry)) «is_last» (now (out .entry)) (now (out .exit)) r ⌝ }
@@ -100,32 +112,14 @@ pub fn play(start: Board, before: u64, piece: &[u8], is_last: bool, out: &mut [u
     let mut text = 0;
     while read < piece.len() {
         if out.len() - text < LONGEST_LINE {
-            return Played {
-                board,
-                number,
-                read,
-                written: text,
-                pause: Pause::FullOutput,
-            };
+            return paused(board, number, read, text, Pause::FullOutput);
         }
         let taken = front_length(&piece[read..], is_last);
         if taken == 0 {
-            return Played {
-                board,
-                number,
-                read,
-                written: text,
-                pause: Pause::MoreInput,
-            };
+            return paused(board, number, read, text, Pause::MoreInput);
         }
         if u64::MAX <= number {
-            return Played {
-                board,
-                number,
-                read,
-                written: text,
-                pause: Pause::End,
-            };
+            return paused(board, number, read, text, Pause::End);
         }
         number += 1;
         let told = tell(board, number, &piece[read..read + taken], &mut out[text..]);
@@ -133,22 +127,10 @@ pub fn play(start: Board, before: u64, piece: &[u8], is_last: bool, out: &mut [u
         read += taken;
         text += told.written;
         if stops(told.returned) {
-            return Played {
-                board,
-                number,
-                read,
-                written: text,
-                pause: Pause::End,
-            };
+            return paused(board, number, read, text, Pause::End);
         }
     }
-    Played {
-        board,
-        number,
-        read,
-        written: text,
-        pause: at_end(is_last),
-    }
+    paused(board, number, read, text, at_end(is_last))
 }
 
 fn at_end(is_last: bool) -> Pause

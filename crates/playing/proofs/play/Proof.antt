@@ -31,13 +31,16 @@ loop-holds c = (search needs, search needs, search needs, λ later z text d k r.
 sub-if1 : tie.Need-sub-if1 Inv-loop μ-loop
 sub-if1 c = search needs
 
+paused-requires : tie.Need-paused-requires Inv-loop μ-loop
+paused-requires c κs = search needs
+
 same-length : tie.Need-same-length Inv-loop μ-loop
 same-length c = search needs
 
 returns : tie.Need-returns Inv-loop μ-loop
 returns c =
-    let i = c .before .before .loop .inv in
-    record { read = i .0; written = i .1; pauses = omega (arith, c .if1 .taken, i .1, i .2); plays = i .3 }
+    let i = c .before .before .before .loop .inv in
+    rw (c .paused .ensures) (record { read = i .0; written = i .1; pauses = omega (arith, c .before .if1 .taken, i .1, i .2); plays = i .3 })
 
 sub-front-length : tie.Need-sub-front-length Inv-loop μ-loop
 sub-front-length c = search needs
@@ -51,29 +54,35 @@ part-front-length-end c = search needs
 front-length-requires : tie.Need-front-length-requires Inv-loop μ-loop
 front-length-requires c κs = search needs
 
+paused-requires-2 : tie.Need-paused-requires-2 Inv-loop μ-loop
+paused-requires-2 c κs = search needs
+
 same-length-2 : tie.Need-same-length-2 Inv-loop μ-loop
 same-length-2 c = search needs
 
 returns-2 : tie.Need-returns-2 Inv-loop μ-loop
 returns-2 c =
-    let i = c .before .before .before .before .before .loop .inv in
-    let r = c .before .before .before .before .before .loop .read in
-    let v = c .before .before .before .before .before .before .before .before .args in
-    let f = c .before .front-length in
-    record {
+    let i = c .before .before .before .before .before .before .loop .inv in
+    let r = c .before .before .before .before .before .before .loop .read in
+    let v = c .before .before .before .before .before .before .before .before .before .args in
+    let f = c .before .before .front-length in
+    rw (c .paused2 .ensures) (record {
       read = i .0;
       written = i .1;
       pauses =
-          front-none (v .is-last) (drop r (v .piece .now)) (omega (arith, c .before .before .before .before .loop-test .taken, length-drop r (v .piece .now)))
-          (sym (f .ensures .0 ∙ ap (frontLength (v .is-last)) (rest r (v .piece .now))) ∙ c .if2 .taken);
+          front-none (v .is-last) (drop r (v .piece .now)) (omega (arith, c .before .before .before .before .before .loop-test .taken, length-drop r (v .piece .now)))
+          (sym (f .ensures .0 ∙ ap (frontLength (v .is-last)) (rest r (v .piece .now))) ∙ c .before .if2 .taken);
       plays = i .3;
-    }
+    })
+
+paused-requires-3 : tie.Need-paused-requires-3 Inv-loop μ-loop
+paused-requires-3 c κs = search needs
 
 same-length-3 : tie.Need-same-length-3 Inv-loop μ-loop
 same-length-3 c = search needs
 
 returns-3 : tie.Need-returns-3 Inv-loop μ-loop
-returns-3 c = let i = c .before .before .before .before .before .before .loop .inv in record { read = i .0; written = i .1; pauses = tt; plays = λ later z. inr (c .if3 .taken) }
+returns-3 c = let i = c .before .before .before .before .before .before .before .loop .inv in rw (c .paused3 .ensures) (record { read = i .0; written = i .1; pauses = tt; plays = λ later z. inr (c .before .if3 .taken) })
 
 add-number : tie.Need-add-number Inv-loop μ-loop
 add-number c = search needs
@@ -116,8 +125,11 @@ add-text c = omega (
 stops-requires : tie.Need-stops-requires Inv-loop μ-loop
 stops-requires c κs = search needs
 
+paused-requires-4 : tie.Need-paused-requires-4 Inv-loop μ-loop
+paused-requires-4 c κs = search needs
+
 same-length-4 : tie.Need-same-length-4 Inv-loop μ-loop
-same-length-4 c = search needs
+same-length-4 c = search (needs, c .before .before .before .before .before .before .out .given, c .before .before .before .before .before .before .before .before .before .before .before .before .before .before .before .before .loop .inv .2)
 
 -- ---- a turn's record and the part of the text's buffer that its line is written to
 
@@ -168,21 +180,21 @@ room-left c =
 
 returns-4 : tie.Need-returns-4 Inv-loop μ-loop
 returns-4 c =
-    let v = c .before .before .before .before .before .before .before .before .before .before .before .before .before .before .before .before .before .before .args in
-    let at = c .before .before .before .before .before .before .before .before .before .before .before .before .before .before .before .loop in
-    let f = c .before .before .before .before .before .before .before .before .before .before .before .front-length in
-    let t = c .before .before .before .before .before .before .tell in
+    let v = c .before .before .before .before .before .before .before .before .before .before .before .before .before .before .before .before .before .before .before .args in
+    let at = c .before .before .before .before .before .before .before .before .before .before .before .before .before .before .before .before .loop in
+    let f = c .before .before .before .before .before .before .before .before .before .before .before .before .front-length in
+    let t = c .before .before .before .before .before .before .before .tell in
     let w = t .ensures .1 .line .within in
     let l = length-drop (at .text) (at .out) in
-    record {
-      read = within (c .before);
-      written = search needs;
+    rw (c .paused4 .ensures) (record {
+      read = within (c .before .before);
+      written = omega (arith, w, l, ap length (rest (at .text) (at .out)), at .inv .1, at .inv .2);
       pauses = tt;
       plays = λ later z. inl (turns-last (v .piece .now ++ later) later (v .piece .now) (at .out) (take (length (at .out) - at .text) (drop (at .text) (at .out))) _ _
           (take (at .read + f .result - at .read) (drop (at .read) (v .piece .now))) (v .is-last) (at .read) (at .text) (f .result) (t .ensures .0) (t .result) _
-          (more (c .before)) (behind-text (c .before)) (room-left (c .before)) (is-front (c .before)) (some (c .before))
-          (part-of (at .read) (f .result) (v .piece .now)) (t .ensures .1) z (at .inv .3 later z) (c .before .stops .ensures) (c .if4 .taken));
-    }
+          (more (c .before .before)) (behind-text (c .before .before)) (room-left (c .before .before)) (is-front (c .before .before)) (some (c .before .before))
+          (part-of (at .read) (f .result) (v .piece .now)) (t .ensures .1) z (at .inv .3 later z) (c .before .before .stops .ensures) (c .before .if4 .taken));
+    })
 
 loop-less : tie.Need-loop-less Inv-loop μ-loop
 loop-less c = search needs
@@ -207,20 +219,23 @@ loop-again c =
 at-end-requires : tie.Need-at-end-requires Inv-loop μ-loop
 at-end-requires c κs = search needs
 
+paused-requires-5 : tie.Need-paused-requires-5 Inv-loop μ-loop
+paused-requires-5 c κs = search needs
+
 same-length-5 : tie.Need-same-length-5 Inv-loop μ-loop
 same-length-5 c = search needs
 
 returns-5 : tie.Need-returns-5 Inv-loop μ-loop
 returns-5 c =
-    let v = c .before .before .before .before .before .args in
-    let at = c .before .before .loop in
+    let v = c .before .before .before .before .before .before .args in
+    let at = c .before .before .before .loop in
     let i = at .inv in
-    record {
+    rw (c .paused5 .ensures) (record {
       read = i .0;
       written = i .1;
-      pauses = rw (c .at-end .ensures) (pauses-end (v .is-last) (v .piece .now) (at .read) (length (v .out .now)) (at .text) (omega arith));
-      plays = λ later z. rw (c .at-end .ensures) (plays-end (v .piece .now ++ later) later (v .piece .now) (take (at .text) (at .out)) (v .is-last) (at .read) (omega arith) z (i .3 later z));
-    }
+      pauses = rw (c .before .at-end .ensures) (pauses-end (v .is-last) (v .piece .now) (at .read) (length (v .out .now)) (at .text) (omega arith));
+      plays = λ later z. rw (c .before .at-end .ensures) (plays-end (v .piece .now ++ later) later (v .piece .now) (take (at .text) (at .out)) (v .is-last) (at .read) (omega arith) z (i .3 later z));
+    })
 
 pub play-spec : {M : Type 1} → statement M
 play-spec =
@@ -230,14 +245,17 @@ play-spec =
     μ-loop
     loop-holds
     sub-if1
+    paused-requires
     same-length
     returns
     sub-front-length
     part-front-length-start
     part-front-length-end
     front-length-requires
+    paused-requires-2
     same-length-2
     returns-2
+    paused-requires-3
     same-length-3
     returns-3
     add-number
@@ -252,10 +270,12 @@ play-spec =
     add-read
     add-text
     stops-requires
+    paused-requires-4
     same-length-4
     returns-4
     loop-less
     loop-again
     at-end-requires
+    paused-requires-5
     same-length-5
     returns-5)
