@@ -1,13 +1,13 @@
 -- The outcome of the rules by the tests that lead to it, and what the code shows of it.
 use borrow.Author.Tests.{lt-ltb, le-ltb}
 use Prim.Native.Nat.{_<_, _≤_, ℕ}
-use mathlib.Core.Path.{_∙_, ap, refl, subst⁻¹, _≡_}
+use mathlib.Core.Path.{_∙_, ap, refl, subst, subst⁻¹, _≡_}
 use mathlib.Core.Bool.{Bool, cond, false, true}
 use mathlib.Core.List.{_++_, List}
 use lib.ListN.{length, drop}
 use Rattle.board.specs.Soundness.{sound}
 use Rattle.board.specs.declared.Board.{Board}
-use Rattle.ect.specs.Contract.{Shows, Steps, answerNumber, answerCount}
+use Rattle.ect.specs.Contract.{Shows, Steps, StepsTested, answerNumber, answerCount}
 use Rattle.ect.specs.Effects.{Carries, verdictOf, answerTo, boardBy}
 use Rattle.replies.specs.declared.Out.{Out}
 use Rattle.replies.specs.Writing.{written, Says}
@@ -17,28 +17,21 @@ use Rattle.ect.specs.declared.Stepped.{Stepped}
 use Rattle.events.specs.declared.Refusal.{Refusal}
 use Rattle.rules.specs.Checks.{refusalNumber, Refuse, Decision, OpenLeg, SetState, SetAuxiliary, ReleaseLeg, ServeCall, EndAlerting, returnedBy}
 use Rattle.rules.specs.Replies.{DropOrder, ReplyRecord, octets, NamedFirst}
-use Rattle.rules.specs.Step.{replies, step, refused, Outcome, done, decision}
+use Rattle.rules.specs.Step.{replies, step, stepTested, refused, Outcome, done, decision}
 use Rattle.events.specs.declared.Refusal.the-variants as refusal
 use Rattle.ect.specs.declared.effects.Verdict.{Verdict}
 use Rattle.ect.specs.declared.effects.Effect.{Effect}
 
 -- ---- the outcome
 
-module _ (order : DropOrder) (b : Board) (os : List ℕ) (room : ℕ) where
-  small : room < 128 → step order b os room ≡ refused (refusalNumber refusal.BufferTooSmall) b
-  unfolding step
-  small h = ap (λ (x : Bool). cond {A = Outcome} x (refused (refusalNumber refusal.BufferTooSmall) b) (cond (sound b) (done order b (decision b os)) (refused (refusalNumber refusal.UnsoundBoard) b))) (lt-ltb room 128 h)
+module _ (tested : Bool) (order : DropOrder) (b : Board) (os : List ℕ) (room : ℕ) where
+  small : room < 128 → stepTested tested order b os room ≡ refused (refusalNumber refusal.BufferTooSmall) b
+  unfolding stepTested
+  small h = ap (λ (x : Bool). cond {A = Outcome} x (refused (refusalNumber refusal.BufferTooSmall) b) (cond tested (done order b (decision b os)) (refused (refusalNumber refusal.UnsoundBoard) b))) (lt-ltb room 128 h)
 
-  module _ (h : 128 ≤ room) where
-    enough : step order b os room ≡ cond {A = Outcome} (sound b) (done order b (decision b os)) (refused (refusalNumber refusal.UnsoundBoard) b)
-    unfolding step
-    enough = ap (λ (x : Bool). cond {A = Outcome} x (refused (refusalNumber refusal.BufferTooSmall) b) (cond (sound b) (done order b (decision b os)) (refused (refusalNumber refusal.UnsoundBoard) b))) (le-ltb room 128 h)
-
-    is-unsound : sound b ≡ false → step order b os room ≡ refused (refusalNumber refusal.UnsoundBoard) b
-    is-unsound s = enough ∙ ap (λ (x : Bool). cond {A = Outcome} x (done order b (decision b os)) (refused (refusalNumber refusal.UnsoundBoard) b)) s
-
-    decides : sound b ≡ true → step order b os room ≡ done order b (decision b os)
-    decides s = enough ∙ ap (λ (x : Bool). cond {A = Outcome} x (done order b (decision b os)) (refused (refusalNumber refusal.UnsoundBoard) b)) s
+  enough : 128 ≤ room → stepTested tested order b os room ≡ cond {A = Outcome} tested (done order b (decision b os)) (refused (refusalNumber refusal.UnsoundBoard) b)
+  unfolding stepTested
+  enough h = ap (λ (x : Bool). cond {A = Outcome} x (refused (refusalNumber refusal.BufferTooSmall) b) (cond tested (done order b (decision b os)) (refused (refusalNumber refusal.UnsoundBoard) b))) (le-ltb room 128 h)
 
 -- ---- what is shown of it
 
@@ -55,13 +48,18 @@ shows-is {before = before} {r = r} {after = after} h k = subst⁻¹ (λ (x : Out
 copied : {o : Out} {rs : List ReplyRecord} {b : List ℕ} (before : List ℕ) → Says o rs → b ≡ written o ++ drop (o .len) before → b ≡ octets rs ++ drop (length (octets rs)) before
 copied before s e = e ∙ rw (s .is, s .long)
 
+-- the test handed in is the board's own
+pub own-test : (b : Board) (os before after : List ℕ) (r : Stepped) {tested : Bool} → tested ≡ sound b → StepsTested tested b os before r after → Steps b os before r after
+unfolding step
+own-test b os before after r e s = subst (λ (x : Bool). StepsTested x b os before r after) e s
+
 module _ (b : Board) (os before : List ℕ) where
-  pub too-small : length before < 128 → Steps b os before (stepped (Refused refusal.BufferTooSmall) b) before
-  too-small h = (NamedFirst, shows-is (small NamedFirst b os (length before) h) (shows-refused refusal.BufferTooSmall b before))
+  pub too-small : (tested : Bool) → length before < 128 → StepsTested tested b os before (stepped (Refused refusal.BufferTooSmall) b) before
+  too-small tested h = (NamedFirst, shows-is (small tested NamedFirst b os (length before) h) (shows-refused refusal.BufferTooSmall b before))
 
   module _ (h : 128 ≤ length before) where
-    pub not-sound : sound b ≡ false → Steps b os before (stepped (Refused refusal.UnsoundBoard) b) before
-    not-sound s = (NamedFirst, shows-is (is-unsound NamedFirst b os (length before) h s) (shows-refused refusal.UnsoundBoard b before))
+    pub not-sound : {tested : Bool} → tested ≡ false → StepsTested tested b os before (stepped (Refused refusal.UnsoundBoard) b) before
+    not-sound t = rw t (NamedFirst, shows-is (enough false NamedFirst b os (length before) h) (shows-refused refusal.UnsoundBoard b before))
 
     answer-by : (d : Decision) (n : ℕ) → answerNumber (answerTo (verdictOf d) n) ≡ returnedBy d
     answer-by (Refuse r) n = refl
@@ -82,13 +80,14 @@ module _ (b : Board) (os before : List ℕ) where
     count-by (ServeCall p t) n h = h
     count-by (EndAlerting l p) n h = h
 
-    pub step-done : sound b ≡ true → {e : Effect} → Carries e b (decision b os) → {n : ℕ} {a : StepAnswer} {b′ : Board} {after : List ℕ} →
-        n ≡ e .out .len → after ≡ written (e .out) ++ drop (e .out .len) before → a ≡ answerTo (e .verdict) n → b′ ≡ boardBy (e .deed) (e .row) b → Steps b os before (stepped a b′) after
-    step-done s k {n} m q v w =
+    pub step-done : {tested : Bool} → tested ≡ true → {e : Effect} → Carries e b (decision b os) → {n : ℕ} {a : StepAnswer} {b′ : Board} {after : List ℕ} →
+        n ≡ e .out .len → after ≡ written (e .out) ++ drop (e .out .len) before → a ≡ answerTo (e .verdict) n → b′ ≡ boardBy (e .deed) (e .row) b → StepsTested tested b os before (stepped a b′) after
+    step-done t k {n} m q v w =
         let d = decision b os in
-        let u = v ∙ ap (λ (x : Verdict). answerTo x n) (k .verdict) in (
+        let u = v ∙ ap (λ (x : Verdict). answerTo x n) (k .verdict) in
+        rw t (
           NamedFirst,
-          shows-is (decides NamedFirst b os (length before) h s)
+          shows-is (enough true NamedFirst b os (length before) h)
               (record {
                 answer = ap answerNumber u ∙ answer-by d n;
                 count = ap answerCount u ∙ count-by d n (m ∙ k .says .long);

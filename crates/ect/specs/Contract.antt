@@ -1,13 +1,14 @@
 -- What `step` promises: the answer, the board and the buffer of the rules' outcome (demands 1 and 2).
 use Prim.Native.Nat.{ℕ}
 use mathlib.Core.Path.{_≡_}
+use mathlib.Core.Bool.{Bool}
 use mathlib.Core.List.{List, _++_}
 use lib.ListN.{length, drop}
 use Rattle.board.specs.declared.Board.{Board}
 use Rattle.events.specs.declared.Refusal.{Refusal}
 use Rattle.rules.specs.Checks.{refusalNumber}
 use Rattle.rules.specs.Replies.{DropOrder, octets}
-use Rattle.rules.specs.Step.{Outcome, step}
+use Rattle.rules.specs.Step.{Outcome, step, stepTested}
 use Rattle.ect.specs.declared.StepAnswer.{StepAnswer}
 use Rattle.ect.specs.declared.StepAnswer.the-variants.{Accepted, Refused}
 use Rattle.ect.specs.declared.Stepped.{Stepped}
@@ -32,3 +33,7 @@ pub record Shows (o : Outcome) (before : List ℕ) (r : Stepped) (after : List �
 -- the outcome is that of the rules, in one order of a transfer's two Drops: "Only the order of the two drop notices is left open."
 abbrev pub Steps : Board → List ℕ → List ℕ → Stepped → List ℕ → Type 0
 Steps b event before r after = (order : DropOrder) × Shows (step order b event (length before)) before r after
+
+-- the same where the answer to the test of soundness is handed in
+abbrev pub StepsTested : Bool → Board → List ℕ → List ℕ → Stepped → List ℕ → Type 0
+StepsTested tested b event before r after = (order : DropOrder) × Shows (stepTested tested order b event (length before)) before r after

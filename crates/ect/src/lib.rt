@@ -11,7 +11,7 @@ ghost use mathlib.Core.Path.{_≡_};
 ghost use mathlib.Core.List.{_++_};
 ghost use lib.ListN.{length, drop};
 ghost use Rattle.replies.specs.Writing.{written};
-ghost use Rattle.ect.specs.Contract.{Steps};
+ghost use Rattle.ect.specs.Contract.{Steps, StepsTested};
 ghost use Rattle.ect.specs.Effects.{answerTo};
 
 mod digits;
@@ -58,13 +58,21 @@ fn copy_out(reply: &mut [u8], out: Out) -> usize
 pub fn step(board: Board, event: &[u8], reply: &mut [u8]) -> Stepped
     ensures { λ r. ⌜ Steps board (now (event .entry)) (now (reply .entry)) r (now (reply .exit)) ⌝ }
 {
+    step_tested(board, sound(board), event, reply)
+}
+
+// The same for a caller that knows whether the board is sound. The board returned is sound exactly where the one
+// given is, so a run of events needs one test.
+pub fn step_tested(board: Board, is_sound: bool, event: &[u8], reply: &mut [u8]) -> Stepped
+    ensures { λ r. ⌜ StepsTested «is_sound» board (now (event .entry)) (now (reply .entry)) r (now (reply .exit)) ⌝ }
+{
     if reply.len() < 128 {
         return Stepped {
             answer: StepAnswer::Refused(Refusal::BufferTooSmall),
             board,
         };
     }
-    if !sound(board) {
+    if !is_sound {
         return Stepped {
             answer: StepAnswer::Refused(Refusal::UnsoundBoard),
             board,

@@ -21,7 +21,7 @@ use Rattle.rules.specs.Checks.{decide, Decision, returnedBy, Refuse, ref
 use Rattle.events.specs.EventRecords.{request, ranged, Request, inRange, Malformed, sized, openBody, progressBody, field, holdBody, Release, facilityBody, Answer}
 use Rattle.rules.specs.History.{returns, Event, stepped, boardAt, bookAt, bookReturns}
 use Rattle.rules.specs.Replies.{octets}
-use Rattle.rules.specs.Step.{decision, boardAfter, rowsAfter, Outcome, refused, step, done}
+use Rattle.rules.specs.Step.{decision, boardAfter, rowsAfter, Outcome, refused, step, stepTested, done}
 use Rattle.events.specs.declared.Refusal.the-variants.{FieldOutOfRange, WrongLength, BufferTooSmall, UnsoundBoard}
 use Rattle.octets.proofs.Lists.{Perm, both, length-perm, p-trans, p-sym, p-nil}
 use Rattle.octets.specs.Lists.{all}
@@ -123,7 +123,7 @@ unfolding bookAfter entriesAfter candidateMoves
 refused-together t = t
 
 pub next : {b : Board} {k : Book} → Together b k → (e : Event) → Next b k (stepped b e) (bookDecision k (e .octets) (e .room))
-unfolding step bookDecision
+unfolding step stepTested bookDecision
 next {b} {k} t e =
     subst (λ (d : Decision). Next b k (stepped b e) (cond (ltb (e .room) 128) (Refuse refusal.BufferTooSmall) d)) (same-decision t (e .octets))
     (subst⁻¹ (λ (y : Bool). Next b k (cond (ltb (e .room) 128) (refused (refusalNumber refusal.BufferTooSmall) b) (cond y (done (e .order) b (decision b (e .octets))) (refused (refusalNumber refusal.UnsoundBoard) b))) (cond (ltb (e .room) 128) (Refuse refusal.BufferTooSmall) (decision b (e .octets))))

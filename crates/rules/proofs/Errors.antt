@@ -17,7 +17,7 @@ use Rattle.rules.specs.Checks.{ServeCall, Decision, Refuse, OpenLeg, Set
 use Rattle.rules.specs.History.{Event, stepped}
 use Rattle.rules.specs.Replies.{told, Number, errorRecord, Drop, DropOrder, tells, numberAt, drops, NamedFirst, OtherFirst, octets, errorTag, Reply, ReplyRecord, errorOctets, Tell, Gone}
 use Rattle.rules.specs.Serving.{Service, Silent, Respond, AssignLinkId, Transfer}
-use Rattle.rules.specs.Step.{serviceReplies, boardAfter, rowsAfter, candidateAfter, releaseReplies, done, replies, refused, step, Outcome, decision}
+use Rattle.rules.specs.Step.{serviceReplies, boardAfter, rowsAfter, candidateAfter, releaseReplies, done, replies, refused, step, stepTested, Outcome, decision}
 use Rattle.events.specs.declared.Refusal.the-variants.{BufferTooSmall, UnsoundBoard}
 use Rattle.octets.proofs.Lists.{true-not-false, neither, or-left}
 use Rattle.octets.specs.Lists.{any}
@@ -72,7 +72,7 @@ untouched-done order b (ServeCall p v) h = absurd (true-not-false refl h)
 untouched-done order b (EndAlerting l p) h = absurd (true-not-false refl h)
 
 pub untouched-step : (b : Board) (e : Event) → eqb (stepped b e .returned) 0 ≡ false → stepped b e ≡ refused (stepped b e .returned) b
-unfolding step
+unfolding step stepTested
 untouched-step b e = go (ltb (e .room) 128) (sound b)
   where
     go : (x y : Bool) → eqb ((cond {A = Outcome} x (refused (refusalNumber refusal.BufferTooSmall) b) (cond y (done (e .order) b (decision b (e .octets))) (refused (refusalNumber refusal.UnsoundBoard) b))) .returned) 0 ≡ false →
@@ -82,7 +82,7 @@ untouched-step b e = go (ltb (e .room) 128) (sound b)
     go false false h = refl
 
 pub unharmed : (b : Board) (e : Event) → any errorRecord (stepped b e .replies) ≡ true → stepped b e .board ≡ b
-unfolding step
+unfolding step stepTested
 unharmed b e = go (ltb (e .room) 128) (sound b)
   where
     go : (x y : Bool) → any errorRecord ((cond {A = Outcome} x (refused (refusalNumber refusal.BufferTooSmall) b) (cond y (done (e .order) b (decision b (e .octets))) (refused (refusalNumber refusal.UnsoundBoard) b))) .replies) ≡ true →

@@ -28,7 +28,7 @@ use Rattle.rules.specs.History.{Event, stepped, boardAt}
 use Rattle.rules.specs.Replies.{octets}
 use Rattle.rules.specs.Serving.{live, Service}
 use Rattle.rules.specs.Situations.{after}
-use Rattle.rules.specs.Step.{step, serviceCandidate, decision, candidateAfter, boardAfter, Outcome, refused, done}
+use Rattle.rules.specs.Step.{step, stepTested, serviceCandidate, decision, candidateAfter, boardAfter, Outcome, refused, done}
 use Rattle.events.specs.declared.Refusal.the-variants.{BufferTooSmall, UnsoundBoard}
 use Rattle.octets.proofs.Lists.{true-not-false, eqb-of, eqb-eq, test, neither, both, any-has, any-of, mem-keep, or-false, left, right, is-not}
 use Rattle.octets.proofs.SameLinkId.{sameLinkId-eq}
@@ -213,7 +213,7 @@ decision-small z h (serves m v) = service-small z h v
 decision-small z h ends-alerting = h
 
 step-small : (b : Board) (e : Event) → Small (b .candidate .0) → Small (stepped b e .board .candidate .0)
-unfolding step boardAfter decision
+unfolding step stepTested boardAfter decision
 step-small b e h = go (ltb (e .room) 128) (sound b)
   where
     go : (x y : Bool) → Small ((cond {A = Outcome} x (refused (refusalNumber refusal.BufferTooSmall) b) (cond y (done (e .order) b (decision b (e .octets))) (refused (refusalNumber refusal.UnsoundBoard) b))) .board .candidate .0)

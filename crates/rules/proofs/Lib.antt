@@ -8,6 +8,7 @@ pub mod Free
 pub mod Presence
 pub mod Partner
 pub mod Errors
+pub mod SoundKept
 pub mod WholeHistory
 pub mod Room
 pub mod Situations

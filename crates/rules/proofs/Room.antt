@@ -24,7 +24,7 @@ use Rattle.component.specs.declared.Answer.the-variants.{LinkIdResult, Result}
 use Rattle.rules.specs.Checks.{Decision, Refuse, OpenLeg, SetState, SetAuxiliary, ReleaseLeg, ServeCall, EndAlerting, refusalNumber}
 use Rattle.rules.specs.Replies.{recordOctets, Reply, numberAt, Number, markOnly, numberOfRow, told, ReplyRecord, octets, drops, DropOrder, NamedFirst, OtherFirst, tells, answerTold}
 use Rattle.rules.specs.Serving.{Service, Silent, Respond, AssignLinkId, Transfer}
-use Rattle.rules.specs.Step.{serviceReplies, releaseReplies, replies, step, Outcome, refused, done, decision}
+use Rattle.rules.specs.Step.{serviceReplies, releaseReplies, replies, step, stepTested, Outcome, refused, done, decision}
 use Rattle.events.specs.declared.Refusal.the-variants.{BufferTooSmall, UnsoundBoard}
 use Rattle.octets.proofs.Lists.{eqb-eq, left, true-not-false, right, find-mem, all-at}
 use Rattle.octets.specs.Lists.{all, find}
@@ -131,7 +131,7 @@ replies-length order rows k (EndAlerting l p) =
 
 -- whatever the board, the event and the buffer, what is written fits
 pub room-enough : (order : DropOrder) (b : Board) (os : List ℕ) (room : ℕ) → length (octets (step order b os room .replies)) ≤ 92
-unfolding step sound soundRows octets
+unfolding step stepTested sound soundRows octets
 room-enough order b os room = go (ltb room 128) (sound b) refl
   where
     go : (x y : Bool) → sound b ≡ y →

@@ -12,11 +12,11 @@ use Rattle.rules.specs.Pairing.{pairs}
 use Rattle.rules.specs.Serving.{serve}
 use Rattle.rules.specs.Checks.{decide}
 use Rattle.rules.specs.Replies.{octets}
-use Rattle.rules.specs.Step.{step, decision, rowsAfter, candidateAfter, boardAfter, replies}
+use Rattle.rules.specs.Step.{step, stepTested, decision, rowsAfter, candidateAfter, boardAfter, replies}
 use Rattle.rules.specs.Situations.{Situations, WorkedLog, after, upTo, heldAndIdle, sixteenLive, log}
 
 pub situations : Situations
-unfolding firstElement siblings wholeElements reading invokeReading identifiedReading answerOctets sound soundRows soundEntries validRow counts fresh changedRows rowAfter request pairs serve decide octets step decision rowsAfter candidateAfter boardAfter replies after upTo heldAndIdle sixteenLive
+unfolding firstElement siblings wholeElements reading invokeReading identifiedReading answerOctets sound soundRows soundEntries validRow counts fresh changedRows rowAfter request pairs serve decide octets step stepTested decision rowsAfter candidateAfter boardAfter replies after upTo heldAndIdle sixteenLive
 situations = record {
   active-held-with-active-idle = refl;
   both-held = refl;
@@ -41,5 +41,5 @@ situations = record {
 }
 
 pub worked-log : WorkedLog
-unfolding firstElement siblings wholeElements reading invokeReading identifiedReading answerOctets sound soundRows soundEntries validRow counts fresh changedRows rowAfter request pairs serve decide octets step decision rowsAfter candidateAfter boardAfter replies after log
+unfolding firstElement siblings wholeElements reading invokeReading identifiedReading answerOctets sound soundRows soundEntries validRow counts fresh changedRows rowAfter request pairs serve decide octets step stepTested decision rowsAfter candidateAfter boardAfter replies after log
 worked-log = record { lines = refl; end = refl }

@@ -22,7 +22,7 @@ use Rattle.rules.specs.Checks.{Decision, returnedBy, Refuse, OpenLeg, Se
 use Rattle.events.specs.EventRecords.{request}
 use Rattle.rules.specs.History.{history, booked, Event, accepts, stepped, bookAt, boardAt, bookReturns, accepted, opens, ends, Lives, endsLeg, Agree, transferOf, joinsTo, onBoard, Partners, HasRow, Demand3}
 use Rattle.rules.specs.Replies.{octets, DropOrder}
-use Rattle.rules.specs.Step.{refused, step, Outcome, done, decision}
+use Rattle.rules.specs.Step.{refused, step, stepTested, Outcome, done, decision}
 use Rattle.events.specs.declared.Refusal.the-variants.{BufferTooSmall, UnsoundBoard}
 use Rattle.octets.proofs.Lists.{true-not-false, both, left, right, from-true, is-true, mem-perm, p-sym, length-perm, or-left, any-perm, is-not}
 use Rattle.octets.specs.Lists.{all, any}
@@ -302,7 +302,7 @@ whole-history s a list = record {
 
 -- the order of the Drops changes neither the answer nor the board
 pub any-order : (o p : DropOrder) (b : Board) (os : List ℕ) (room : ℕ) → (step o b os room .returned ≡ step p b os room .returned) × (step o b os room .board ≡ step p b os room .board)
-unfolding step
+unfolding step stepTested
 any-order o p b os room = go (ltb room 128) (sound b)
   where
     go : (x y : Bool) →

@@ -110,8 +110,11 @@ decision b os = decide (b .options) (b .candidate .0) (full (b .rows)) (taken (b
 abbrev pub done : DropOrder → Board → Decision → Outcome
 done order b d = record { returned = returnedBy d; board = boardAfter d b; replies = replies order (b .rows) d }
 
--- "1: reply buffer below 128 octets"; "2: board not sound"; then the checks of the record
-unfoldable pub step : DropOrder → Board → List ℕ → ℕ → Outcome
-step order b os room =
+-- "1: reply buffer below 128 octets"; "2: board not sound", where `tested` is the answer to that test; then the checks of the record
+unfoldable pub stepTested : Bool → DropOrder → Board → List ℕ → ℕ → Outcome
+stepTested tested order b os room =
     cond (ltb room 128) (refused (refusalNumber BufferTooSmall) b)
-    (cond (sound b) (done order b (decision b os)) (refused (refusalNumber UnsoundBoard) b))
+    (cond tested (done order b (decision b os)) (refused (refusalNumber UnsoundBoard) b))
+
+unfoldable pub step : DropOrder → Board → List ℕ → ℕ → Outcome
+step order b os room = stepTested (sound b) order b os room

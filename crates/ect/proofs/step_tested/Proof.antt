@@ -1,0 +1,52 @@
+-- `ect::step_tested` meets its contract. Assumes nothing.
+use native.Mathlib.Omega.{arith}
+use Rattle.octets.proofs.Lists.{is-not}
+use Rattle.serving.proofs.PairingLaws.{was-true}
+use Rattle.ect.proofs.StepLaws.{too-small, not-sound, step-done}
+use borrow.Author.Needs.{needs}
+use Rattle.ect.proofs.step_tested.Statement.{statement}
+use Rattle.ect.proofs.step_tested.Tie as tie
+
+returns : tie.Need-returns
+returns c =
+    let s = c .before .before .before .args in
+    too-small (s .board) (s .event .now) (s .reply .now) (s .is-sound) (omega arith)
+
+returns-2 : tie.Need-returns-2
+returns-2 c =
+    let s = c .before .before .before .before .args in
+    not-sound (s .board) (s .event .now) (s .reply .now) (omega arith) (is-not (c .if2 .taken))
+
+effect-of-requires : tie.Need-effect-of-requires
+effect-of-requires c κs = search needs
+
+copy-out-requires : tie.Need-copy-out-requires
+copy-out-requires c κs = search needs
+
+answer-to-requires : tie.Need-answer-to-requires
+answer-to-requires c κs = search needs
+
+done-requires : tie.Need-done-requires
+done-requires c κs = search needs
+
+same-length : tie.Need-same-length
+same-length c = search needs
+
+returns-3 : tie.Need-returns-3
+returns-3 c =
+    let s = c .before .before .before .before .before .before .before .before .before .before .before .before .args in
+    step-done (s .board) (s .event .now) (s .reply .now) (omega arith) (was-true _ (c .before .before .before .before .before .before .before .before .if2 .left))
+    (c .before .before .before .before .before .before .before .effect-of .ensures) (c .before .before .before .before .copy-out .ensures .0) (c .before .before .before .before .copy-out .ensures .1) (c .before .answer-to .ensures) (c .done .ensures)
+
+pub step-tested-spec : {M : Type 1} → statement M
+step-tested-spec =
+    tie.close
+    (tie.spec
+    returns
+    returns-2
+    effect-of-requires
+    copy-out-requires
+    answer-to-requires
+    done-requires
+    same-length
+    returns-3)
