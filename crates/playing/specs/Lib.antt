@@ -1,3 +1,4 @@
--- What the program takes a log to be, and what it makes of a record.
+-- What a log leads to, and what playing a piece of it does.
 pub mod Records
+pub mod Log
 pub mod Playing

@@ -2,14 +2,16 @@
 mod records;
 
 use board::Board;
-use ect::step;
+use ect::step_tested;
 use records::record_length;
 use records::returned;
 use records::written;
+use soundness::sound;
 ghost use mathlib.Core.Path.{_≡_};
 ghost use Prim.Native.Nat.{_≤_, _<_};
 ghost use lib.ListN.{length, getD};
-ghost use Rattle.playing.specs.Playing.{Tells, frontLength, stopsReading, pauseAtEnd, pausedAt, Plays};
+ghost use Rattle.playing.specs.Log.{stopsReading};
+ghost use Rattle.playing.specs.Playing.{Tells, frontLength, pauseAtEnd, pausedAt, Plays};
 
 // More than the longest line of a record: 20 digits, kind, number returned, twice 128 octets, spaces and the end.
 const LONGEST_LINE: usize = 512;
@@ -48,12 +50,12 @@ fn kind_of(event: &[u8]) -> u8
 }
 
 // Has the component judge a record, and writes its line.
-fn tell(board: Board, number: u64, event: &[u8], out: &mut [u8]) -> Told
+fn tell(board: Board, is_sound: bool, number: u64, event: &[u8], out: &mut [u8]) -> Told
     requires { ⌜ 0 < length (now event) ⌝ }
-    ensures { λ r. ⌜ Tells board number (now (event .entry)) (now (out .entry)) (now (out .exit)) r ⌝ }
+    ensures { λ r. ⌜ Tells «is_sound» board number (now (event .entry)) (now (out .entry)) (now (out .exit)) r ⌝ }
 {
     let mut reply = [0u8; 128];
-    let stepped = step(board, event, &mut reply);
+    let stepped = step_tested(board, is_sound, event, &mut reply);
     let answer = stepped.answer;
     let number_returned = returned(answer);
     let count = written(answer);
@@ -102,10 +104,11 @@ fn paused(board: Board, number: u64, read: usize, written: usize, pause: Pause) 
     }
 }
 
-// Plays the records of a piece. A number that 64 bits do not hold is not given: the reading ends at the one before.
+// Plays the records of a piece. The board is tested once: every board after it is sound where it is. A number that 64 bits do not hold is not given: the reading ends at the one before.
 pub fn play(start: Board, before: u64, piece: &[u8], is_last: bool, out: &mut [u8]) -> Played
     ensures { λ r. ⌜ Plays start before (now (piece .entry)) «is_last» (now (out .entry)) (now (out .exit)) r ⌝ }
 {
+    let is_sound = sound(start);
     let mut board = start;
     let mut number = before;
     let mut read = 0;
@@ -122,7 +125,13 @@ pub fn play(start: Board, before: u64, piece: &[u8], is_last: bool, out: &mut [u
             return paused(board, number, read, text, Pause::End);
         }
         number += 1;
-        let told = tell(board, number, &piece[read..read + taken], &mut out[text..]);
+        let told = tell(
+            board,
+            is_sound,
+            number,
+            &piece[read..read + taken],
+            &mut out[text..],
+        );
         board = told.board;
         read += taken;
         text += told.written;

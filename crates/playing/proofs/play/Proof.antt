@@ -1,32 +1,40 @@
 -- `playing::play` meets its contract. Assumes nothing.
-use Prim.Native.Nat.{_+_, _-_, _≤_, _<_}
+use Prim.Native.Nat.{ℕ, _+_, _-_, _≤_, _<_}
 use native.Mathlib.Omega.{arith}
-use Prim.Native.Nat.{ℕ}
-use Prim.{tt}
-use mathlib.Core.Path.{_≡_, sym, ap, _∙_}
+use mathlib.Core.Path.{_≡_, refl, sym, ap, _∙_}
 use mathlib.Core.Bool.{Bool}
-use mathlib.Core.List.{List, _++_}
-use lib.ListN.{length, take, drop, length-drop}
+use mathlib.Core.List.{List, []}
+use lib.ListN.{length, take, drop, length-drop, length-map}
 use borrow.Author.Needs.{needs}
-use mathlib.Core.Logic.{inl, inr}
-use Rattle.playing.specs.Playing.{frontLength, GoesOn}
+use Rattle.board.specs.Soundness.{sound}
 use Rattle.octets.proofs.Places.{rest}
-use Rattle.playing.proofs.PlayingLaws.{Later, front-none, part-of, turns-on, turns-last, plays-end, pauses-end}
+use Rattle.playing.specs.Playing.{frontLength}
+use Rattle.playing.proofs.PlayingLaws.{plays-full, plays-part, plays-most, plays-end}
+use Rattle.playing.proofs.TurnLaws.{SoFar, starts, pauses, turns-on, turns-last, tells-step, stays-sound, part-of}
 use Rattle.playing.proofs.play.Statement.{statement}
 use Rattle.playing.proofs.play.Tie as tie
 
 abbrev Inv-loop : tie.InvT-loop
-Inv-loop before piece is-last out₀ board₀ number₀ read₀ text₀ out board number read text = (read ≤ length piece) × (text ≤ length out₀) × (length out ≡ length out₀) × ((later : List ℕ) → Later is-last later → GoesOn board₀ number₀ (piece ++ later) board number (drop read piece ++ later) (take text out))
+Inv-loop before piece is-last out₀ is-sound board₀ number₀ read₀ text₀ out board number read text =
+    (read ≤ length piece) × (text ≤ length out₀) × (length out ≡ length out₀) × (is-sound ≡ sound board) × (length (board .rows) ≡ 64) × SoFar board₀ number₀ piece is-last out₀ board number read text out
 
 abbrev μ-loop : tie.MeasureT-loop
-μ-loop before piece is-last out₀ board₀ number₀ read₀ text₀ out board number read text = length piece - read
+μ-loop before piece is-last out₀ is-sound board₀ number₀ read₀ text₀ out board number read text = length piece - read
 
 -- the text has a length that a number of 64 bits holds
 room : (c : tie.At-loop Inv-loop μ-loop) → length (c .loop .out) < 18446744073709551616
 room c = omega arith
 
+sound-requires : tie.Need-sound-requires Inv-loop μ-loop
+sound-requires c κs = search needs
+
+rows-of : (c : tie.After-sound Inv-loop μ-loop) → length (c .before .before .before .args .start .rows) ≡ 64
+rows-of c = simp length-map at (c .before .before .before .good .0 .1 .1 .0 .1 .0 .1)
+
 loop-holds : tie.Need-loop-holds Inv-loop μ-loop
-loop-holds c = (search needs, search needs, search needs, λ later z text d k r. r)
+loop-holds c =
+    let v = c .before .before .before .args in
+    (search needs, search needs, refl, c .sound .ensures, rows-of c, starts (v .start) (v .before) (v .piece .now) (v .is-last) (v .out .now))
 
 sub-if1 : tie.Need-sub-if1 Inv-loop μ-loop
 sub-if1 c = search needs
@@ -39,8 +47,9 @@ same-length c = search needs
 
 returns : tie.Need-returns Inv-loop μ-loop
 returns c =
-    let i = c .before .before .before .loop .inv in
-    rw (c .paused .ensures) (record { read = i .0; written = i .1; pauses = omega (arith, c .before .if1 .taken, i .1, i .2); plays = i .3 })
+    let v = c .before .before .before .before .before .before .before .args in
+    let at = c .before .before .before .loop in
+    rw (c .paused .ensures) (pauses (at .inv .5) (plays-full [] (at .board) (at .number) (drop (at .read) (v .piece .now)) (v .is-last) (length (v .out .now) - at .text) (omega (arith, length-drop (at .read) (v .piece .now))) (omega (arith, c .before .if1 .taken, at .inv .2))))
 
 sub-front-length : tie.Need-sub-front-length Inv-loop μ-loop
 sub-front-length c = search needs
@@ -62,18 +71,9 @@ same-length-2 c = search needs
 
 returns-2 : tie.Need-returns-2 Inv-loop μ-loop
 returns-2 c =
-    let i = c .before .before .before .before .before .before .loop .inv in
-    let r = c .before .before .before .before .before .before .loop .read in
-    let v = c .before .before .before .before .before .before .before .before .before .args in
-    let f = c .before .before .front-length in
-    rw (c .paused2 .ensures) (record {
-      read = i .0;
-      written = i .1;
-      pauses =
-          front-none (v .is-last) (drop r (v .piece .now)) (omega (arith, c .before .before .before .before .before .loop-test .taken, length-drop r (v .piece .now)))
-          (sym (f .ensures .0 ∙ ap (frontLength (v .is-last)) (rest r (v .piece .now))) ∙ c .before .if2 .taken);
-      plays = i .3;
-    })
+    let v = c .before .before .before .before .before .before .before .before .before .before .args in
+    let at = c .before .before .before .before .before .before .loop in
+    rw (c .paused2 .ensures) (pauses (at .inv .5) (plays-part [] (at .board) (at .number) (drop (at .read) (v .piece .now)) (v .is-last) (length (v .out .now) - at .text) (omega (arith, length-drop (at .read) (v .piece .now))) (omega (arith, c .before .before .before .before .if1 .left, at .inv .2)) (sym (c .before .before .front-length .ensures .0 ∙ ap (frontLength (v .is-last)) (rest (at .read) (v .piece .now))) ∙ c .before .if2 .taken)))
 
 paused-requires-3 : tie.Need-paused-requires-3 Inv-loop μ-loop
 paused-requires-3 c κs = search needs
@@ -82,7 +82,10 @@ same-length-3 : tie.Need-same-length-3 Inv-loop μ-loop
 same-length-3 c = search needs
 
 returns-3 : tie.Need-returns-3 Inv-loop μ-loop
-returns-3 c = let i = c .before .before .before .before .before .before .before .loop .inv in rw (c .paused3 .ensures) (record { read = i .0; written = i .1; pauses = tt; plays = λ later z. inr (c .before .if3 .taken) })
+returns-3 c =
+    let v = c .before .before .before .before .before .before .before .before .before .before .before .args in
+    let at = c .before .before .before .before .before .before .before .loop in
+    rw (c .paused3 .ensures) (pauses (at .inv .5) (plays-most [] (at .board) (at .number) (drop (at .read) (v .piece .now)) (v .is-last) (length (v .out .now) - at .text) (omega (arith, length-drop (at .read) (v .piece .now))) (omega (arith, c .before .before .before .before .before .if1 .left, at .inv .2)) (omega (arith, c .before .before .if2 .left, c .before .before .before .front-length .ensures .0 ∙ ap (frontLength (v .is-last)) (rest (at .read) (v .piece .now)))) (c .before .if3 .taken)))
 
 add-number : tie.Need-add-number Inv-loop μ-loop
 add-number c = search needs
@@ -131,16 +134,16 @@ paused-requires-4 c κs = search needs
 same-length-4 : tie.Need-same-length-4 Inv-loop μ-loop
 same-length-4 c = search (needs, c .before .before .before .before .before .before .out .given, c .before .before .before .before .before .before .before .before .before .before .before .before .before .before .before .before .loop .inv .2)
 
--- ---- a turn's record and the part of the text's buffer that its line is written to
+-- ---- a turn, from the loop's test to the line's end
 
 abbrev Turn : Type 0
 Turn = tie.After-stops Inv-loop μ-loop
 
 abbrev piece-of : Turn → List ℕ
-piece-of c = c .before .before .before .before .before .before .before .before .before .before .before .before .before .before .before .before .before .args .piece .now
+piece-of c = c .before .before .before .before .before .before .before .before .before .before .before .before .before .before .before .before .before .before .args .piece .now
 
-abbrev last-of : Turn → Bool
-last-of c = c .before .before .before .before .before .before .before .before .before .before .before .before .before .before .before .before .before .args .is-last
+abbrev out-of : Turn → List ℕ
+out-of c = c .before .before .before .before .before .before .before .before .before .before .before .before .before .before .loop .out
 
 abbrev read-of : Turn → ℕ
 read-of c = c .before .before .before .before .before .before .before .before .before .before .before .before .before .before .loop .read
@@ -148,72 +151,47 @@ read-of c = c .before .before .before .before .before .before .before .before .b
 abbrev text-of : Turn → ℕ
 text-of c = c .before .before .before .before .before .before .before .before .before .before .before .before .before .before .loop .text
 
-abbrev out-of : Turn → List ℕ
-out-of c = c .before .before .before .before .before .before .before .before .before .before .before .before .before .before .loop .out
-
 abbrev front-of : Turn → ℕ
 front-of c = c .before .before .before .before .before .before .before .before .before .before .front-length .result
 
-is-front : (c : Turn) → front-of c ≡ frontLength (last-of c) (drop (read-of c) (piece-of c))
-is-front c = c .before .before .before .before .before .before .before .before .before .before .front-length .ensures .0 ∙ ap (frontLength (last-of c)) (rest (read-of c) (piece-of c))
-
-more : (c : Turn) → read-of c < length (piece-of c)
-more c = c .before .before .before .before .before .before .before .before .before .before .before .before .before .loop-test .taken
-
-some : (c : Turn) → 0 < front-of c
-some c = omega (arith, c .before .before .before .before .before .before .before .before .before .if2 .left)
-
-behind-text : (c : Turn) → text-of c ≤ length (out-of c)
-behind-text c = omega (arith, c .before .before .before .before .before .before .before .before .before .before .before .before .before .before .loop .inv .1, c .before .before .before .before .before .before .before .before .before .before .before .before .before .before .loop .inv .2)
+is-front : (c : Turn) → front-of c ≡ frontLength (c .before .before .before .before .before .before .before .before .before .before .before .before .before .before .before .before .before .before .args .is-last) (drop (read-of c) (piece-of c))
+is-front c = c .before .before .before .before .before .before .before .before .before .before .front-length .ensures .0 ∙ ap (frontLength (c .before .before .before .before .before .before .before .before .before .before .before .before .before .before .before .before .before .before .args .is-last)) (rest (read-of c) (piece-of c))
 
 within : (c : Turn) → read-of c + front-of c ≤ length (piece-of c)
 within c =
-    let p = piece-of c in
-    let r = read-of c in
-    let q : front-of c ≤ length (take (length p - r) (drop r p)) = c .before .before .before .before .before .before .before .before .before .before .front-length .ensures .1 in
-    omega (arith, q, ap length (rest r p), length-drop r p)
-
-room-left : (c : Turn) → 512 ≤ length (take (length (out-of c) - text-of c) (drop (text-of c) (out-of c)))
-room-left c =
-    let at = c .before .before .before .before .before .before .before .before .before .before .before .before .before .before .loop in
-    omega (arith, ap length (rest (at .text) (at .out)), length-drop (at .text) (at .out))
+    let q : front-of c ≤ length (take (length (piece-of c) - read-of c) (drop (read-of c) (piece-of c))) = c .before .before .before .before .before .before .before .before .before .before .front-length .ensures .1 in
+    omega (arith, q, ap length (rest (read-of c) (piece-of c)), length-drop (read-of c) (piece-of c))
 
 returns-4 : tie.Need-returns-4 Inv-loop μ-loop
 returns-4 c =
-    let v = c .before .before .before .before .before .before .before .before .before .before .before .before .before .before .before .before .before .before .before .args in
+    let v = c .before .before .before .before .before .before .before .before .before .before .before .before .before .before .before .before .before .before .before .before .args in
     let at = c .before .before .before .before .before .before .before .before .before .before .before .before .before .before .before .before .loop in
-    let f = c .before .before .before .before .before .before .before .before .before .before .before .before .front-length in
+    let f = c .before .before .before .before .before .before .before .before .before .before .before .before .front-length .result in
     let t = c .before .before .before .before .before .before .before .tell in
-    let w = t .ensures .1 .line .within in
-    let l = length-drop (at .text) (at .out) in
-    rw (c .paused4 .ensures) (record {
-      read = within (c .before .before);
-      written = omega (arith, w, l, ap length (rest (at .text) (at .out)), at .inv .1, at .inv .2);
-      pauses = tt;
-      plays = λ later z. inl (turns-last (v .piece .now ++ later) later (v .piece .now) (at .out) (take (length (at .out) - at .text) (drop (at .text) (at .out))) _ _
-          (take (at .read + f .result - at .read) (drop (at .read) (v .piece .now))) (v .is-last) (at .read) (at .text) (f .result) (t .ensures .0) (t .result) _
-          (more (c .before .before)) (behind-text (c .before .before)) (room-left (c .before .before)) (is-front (c .before .before)) (some (c .before .before))
-          (part-of (at .read) (f .result) (v .piece .now)) (t .ensures .1) z (at .inv .3 later z) (c .before .before .stops .ensures) (c .before .if4 .taken));
-    })
+    let s = tells-step (t .ensures .0) (at .board) (take (at .read + f - at .read) (drop (at .read) (v .piece .now))) (at .inv .3) (t .ensures .1) in
+    rw (c .paused4 .ensures) (turns-last (at .inv .5) f (take (at .read + f - at .read) (drop (at .read) (v .piece .now))) (take (length (at .out) - at .text) (drop (at .text) (at .out))) _ (t .ensures .0) (t .result)
+    (c .before .before .before .before .before .before .before .before .before .before .before .before .before .before .before .loop-test .taken) (omega (arith, at .inv .1, at .inv .2)) (at .inv .2) (omega (arith, c .before .before .before .before .before .before .before .before .before .before .before .before .before .before .if1 .left)) (omega (arith, c .before .before .before .before .before .before .before .before .before .before .if3 .left))
+    (is-front (c .before .before)) (omega (arith, c .before .before .before .before .before .before .before .before .before .before .before .if2 .left)) (part-of (at .read) f (v .piece .now)) (rest (at .text) (at .out)) s (sym (c .before .before .stops .ensures) ∙ c .before .if4 .taken))
 
 loop-less : tie.Need-loop-less Inv-loop μ-loop
 loop-less c = search needs
 
 loop-again : tie.Need-loop-again Inv-loop μ-loop
 loop-again c =
-    let v = c .before .before .before .before .before .before .before .before .before .before .before .before .before .before .before .before .before .before .args in
+    let v = c .before .before .before .before .before .before .before .before .before .before .before .before .before .before .before .before .before .before .before .args in
     let at = c .before .before .before .before .before .before .before .before .before .before .before .before .before .before .before .loop in
-    let f = c .before .before .before .before .before .before .before .before .before .before .before .front-length in
+    let f = c .before .before .before .before .before .before .before .before .before .before .before .front-length .result in
     let t = c .before .before .before .before .before .before .tell in
-    let w = t .ensures .1 .line .within in
-    let l = length-drop (at .text) (at .out) in (
+    let s = tells-step (t .ensures .0) (at .board) (take (at .read + f - at .read) (drop (at .read) (v .piece .now))) (at .inv .3) (t .ensures .1) in
+    let k = stays-sound (t .ensures .0) (at .board) (take (at .read + f - at .read) (drop (at .read) (v .piece .now))) (at .inv .3) (t .ensures .1) (at .inv .4) in (
       within (c .before),
       search needs,
       search needs,
-      λ later z. turns-on (v .piece .now ++ later) later (v .piece .now) (at .out) (take (length (at .out) - at .text) (drop (at .text) (at .out))) _ _
-          (take (at .read + f .result - at .read) (drop (at .read) (v .piece .now))) (v .is-last) (at .read) (at .text) (f .result) (t .ensures .0) (t .result) _
-          (more (c .before)) (behind-text (c .before)) (room-left (c .before)) (is-front (c .before)) (some (c .before))
-          (part-of (at .read) (f .result) (v .piece .now)) (t .ensures .1) z (at .inv .3 later z) (c .before .stops .ensures) (c .if4 .left),
+      k .0,
+      k .1,
+      turns-on (at .inv .5) f (take (at .read + f - at .read) (drop (at .read) (v .piece .now))) (take (length (at .out) - at .text) (drop (at .text) (at .out))) _ (t .ensures .0) (t .result)
+          (c .before .before .before .before .before .before .before .before .before .before .before .before .before .before .loop-test .taken) (omega (arith, at .inv .1, at .inv .2)) (at .inv .2) (omega (arith, c .before .before .before .before .before .before .before .before .before .before .before .before .before .if1 .left)) (omega (arith, c .before .before .before .before .before .before .before .before .before .if3 .left))
+          (is-front (c .before)) (omega (arith, c .before .before .before .before .before .before .before .before .before .before .if2 .left)) (part-of (at .read) f (v .piece .now)) (rest (at .text) (at .out)) s (sym (c .before .stops .ensures) ∙ c .if4 .left),
     )
 
 at-end-requires : tie.Need-at-end-requires Inv-loop μ-loop
@@ -227,15 +205,9 @@ same-length-5 c = search needs
 
 returns-5 : tie.Need-returns-5 Inv-loop μ-loop
 returns-5 c =
-    let v = c .before .before .before .before .before .before .args in
+    let v = c .before .before .before .before .before .before .before .args in
     let at = c .before .before .before .loop in
-    let i = at .inv in
-    rw (c .paused5 .ensures) (record {
-      read = i .0;
-      written = i .1;
-      pauses = rw (c .before .at-end .ensures) (pauses-end (v .is-last) (v .piece .now) (at .read) (length (v .out .now)) (at .text) (omega arith));
-      plays = λ later z. rw (c .before .at-end .ensures) (plays-end (v .piece .now ++ later) later (v .piece .now) (take (at .text) (at .out)) (v .is-last) (at .read) (omega arith) z (i .3 later z));
-    })
+    rw (c .paused5 .ensures) (pauses (at .inv .5) (rw (c .before .at-end .ensures) (plays-end [] (at .board) (at .number) (drop (at .read) (v .piece .now)) (v .is-last) (length (v .out .now) - at .text) (omega (arith, length-drop (at .read) (v .piece .now))))))
 
 pub play-spec : {M : Type 1} → statement M
 play-spec =
@@ -243,6 +215,7 @@ play-spec =
     (tie.spec
     Inv-loop
     μ-loop
+    sound-requires
     loop-holds
     sub-if1
     paused-requires

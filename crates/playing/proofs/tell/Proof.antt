@@ -3,19 +3,20 @@ use mathlib.Core.Path.{_≡_, sym}
 use lib.ListN.{length}
 use lib.Seq.{length-take-le}
 use borrow.Author.Needs.{needs}
+use Rattle.rules.specs.Step.{stepTested}
 use Rattle.playing.proofs.PlayingLaws.{count-within, told, outcome-short}
 use Rattle.playing.proofs.tell.Statement.{statement}
 use Rattle.playing.proofs.tell.Tie as tie
 
 -- the reply buffer keeps its length
-long : (c : tie.After-step) → length (c .step .last .1 .1 .0) ≡ 128
+long : (c : tie.After-step-tested) → length (c .step-tested .last .1 .1 .1 .0) ≡ 128
 long c = search needs
 
-slice-aggregate-step : tie.Need-slice-aggregate-step
-slice-aggregate-step c = search needs
+slice-aggregate-step-tested : tie.Need-slice-aggregate-step-tested
+slice-aggregate-step-tested c = search needs
 
-step-requires : tie.Need-step-requires
-step-requires c κs = search needs
+step-tested-requires : tie.Need-step-tested-requires
+step-tested-requires c κs = search needs
 
 returned-requires : tie.Need-returned-requires
 returned-requires c κs = search needs
@@ -27,10 +28,10 @@ kind-of-requires : tie.Need-kind-of-requires
 kind-of-requires c κs = search needs
 
 array-share-prefix-reply : tie.Need-array-share-prefix-reply
-array-share-prefix-reply c = rw (c .before .written .ensures) (count-within (c .before .before .before .before .step .ensures .1) (long (c .before .before .before .before)))
+array-share-prefix-reply c = rw (c .before .written .ensures) (count-within (c .before .before .before .before .step-tested .ensures .1) (long (c .before .before .before .before)))
 
 slice-aggregate-record-line : tie.Need-slice-aggregate-record-line
-slice-aggregate-record-line c = sym (length-take-le (c .before .before .written .result) (c .before .before .before .before .before .step .last .1 .1 .0) (rw (c .before .before .written .ensures) (count-within (c .before .before .before .before .before .step .ensures .1) (long (c .before .before .before .before .before)))))
+slice-aggregate-record-line c = sym (length-take-le (c .before .before .written .result) (c .before .before .before .before .before .step-tested .last .1 .1 .1 .0) (rw (c .before .before .written .ensures) (count-within (c .before .before .before .before .before .step-tested .ensures .1) (long (c .before .before .before .before .before)))))
 
 record-line-requires : tie.Need-record-line-requires
 record-line-requires c κs = search needs
@@ -41,20 +42,23 @@ same-length c = search needs
 returns : tie.Need-returns
 returns c =
     let v = c .before .before .before .before .before .before .before .before .before .before .before .before .before .before .args in
-    let s = c .before .before .before .before .before .before .before .before .before .before .step .ensures in
+    let at = c .before .before .before .before .before .before .before .before .before .before in
+    let s = at .step-tested .ensures in
     let r = c .before .before .before .before .before .before .before .before .returned in
-    let k = c .before .before .before .before .before .before .kind-of in (
+    let k = c .before .before .before .before .before .before .kind-of in
+    let o = stepTested (v .is-sound) (s .0) (v .board) (v .event .now) 128 in (
       s .0,
       told (s .1) (r .ensures) (c .before .before .before .before .before .before .before .written .ensures) (rw (k .ensures) at (c .before .before .before .record-line .ensures))
-          (outcome-short (s .0) (v .board) (v .number) (v .event .now) (search needs) (rw (sym (k .ensures)) (search needs)) (rw (sym (s .1 .answer), sym (r .ensures)) (search needs))),
+          (outcome-short o (v .number) (v .event .now) (search needs) (rw (sym (k .ensures)) (search needs)) (rw (sym (s .1 .answer), sym (r .ensures)) (search needs))
+          (rw (sym (s .1 .count), sym (long at)) (count-within (s .1) (long at)))),
     )
 
 pub tell-spec : {M : Type 1} → statement M
 tell-spec =
     tie.close
     (tie.spec
-    slice-aggregate-step
-    step-requires
+    slice-aggregate-step-tested
+    step-tested-requires
     returned-requires
     written-requires
     kind-of-requires

@@ -1,0 +1,71 @@
+-- What a log leads to (document 01, "Situations": the program), from its first record on.
+use Prim.Native.Nat.{ℕ, zero, suc, _+_}
+use mathlib.Core.Bool.{Bool, cond, _||_}
+use mathlib.Core.List.{List, [], _∷_, _++_}
+use lib.Dec.{eqb, leb}
+use lib.ListN.{length, take, drop, getD}
+use Rattle.board.specs.declared.Board.{Board}
+use Rattle.rules.specs.Replies.{DropOrder, NamedFirst, octets}
+use Rattle.rules.specs.Step.{Outcome, step}
+use Rattle.log_text.specs.Lines.{recordLine}
+use Rattle.playing.specs.Records.{recordLength}
+
+-- "per record `number kind returned octets`", of what the rules decide
+abbrev pub outcomeLine : ℕ → List ℕ → Outcome → List ℕ
+outcomeLine number event o = recordLine number (getD event 0 0) (o .returned) (octets (o .replies))
+
+-- the order of a transfer's two Drops is left open: the orders of a log, one for each record, and behind them the named call's Drop first
+abbrev pub orderNow : List DropOrder → DropOrder
+orderNow [] = NamedFirst
+orderNow (o ∷ os) = o
+
+abbrev pub ordersLater : List DropOrder → List DropOrder
+ordersLater [] = []
+ordersLater (o ∷ os) = os
+
+-- a record on a board, with a reply buffer of 128 octets
+abbrev pub judged : List DropOrder → Board → List ℕ → Outcome
+judged orders b event = step (orderNow orders) b event 128
+
+-- the record in front of a log: as long as its kind, or cut where the log ends
+abbrev pub frontRecord : List ℕ → List ℕ
+frontRecord log = take (recordLength (getD log 0 0)) log
+
+abbrev pub behind : List ℕ → List ℕ
+behind log = drop (recordLength (getD log 0 0)) log
+
+-- "an unknown kind or cut record gets its line (returned 4 or 3) and stops reading"
+abbrev pub stopsReading : ℕ → Bool
+stopsReading returned = eqb returned 3 || eqb returned 4
+
+-- the largest number of a record, since 64 bits hold no larger one: a log ends there
+abbrev pub largestNumber : ℕ
+largestNumber = 18446744073709551615
+
+-- the text of a log, and the board and the number of the last record at its end
+pub record LogEnd : Type 0 where
+  pub text : List ℕ
+  pub board : Board
+  pub number : ℕ
+
+abbrev pub ended : Board → ℕ → LogEnd
+ended b n = record { text = []; board = b; number = n }
+
+-- with a text in front
+abbrev pub withText : List ℕ → LogEnd → LogEnd
+withText text e = record { text = text ++ e .text; board = e .board; number = e .number }
+
+-- on the board b, with n records before, at most so many records
+unfoldable pub logFrom : ℕ → List DropOrder → Board → ℕ → List ℕ → LogEnd
+logFrom zero orders b n log = ended b n
+logFrom (suc k) orders b n [] = ended b n
+logFrom (suc k) orders b n (o ∷ os) =
+    cond (leb largestNumber n) (ended b n)
+    (withText (outcomeLine (n + 1) (frontRecord (o ∷ os)) (judged orders b (frontRecord (o ∷ os))))
+    (cond (stopsReading (judged orders b (frontRecord (o ∷ os)) .returned))
+    (ended (judged orders b (frontRecord (o ∷ os)) .board) (n + 1))
+    (logFrom k (ordersLater orders) (judged orders b (frontRecord (o ∷ os)) .board) (n + 1) (behind (o ∷ os)))))
+
+-- a log has no more records than octets
+abbrev pub logEnd : List DropOrder → Board → ℕ → List ℕ → LogEnd
+logEnd orders b n log = logFrom (length log) orders b n log
