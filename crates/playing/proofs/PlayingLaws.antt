@@ -86,12 +86,13 @@ abbrev behindRecord : ℕ → List DropOrder → Board → ℕ → List ℕ → 
 behindRecord k orders b n piece last room =
     playFrom k (ordersLater orders) (judged orders b (pieceRecord last piece) .board) (n + 1) (drop (frontLength last piece) piece) last (room - length (pieceLine orders b n last piece))
 
+-- a record that takes some octets leaves fewer
+pub some-taken : (last : Bool) (o : ℕ) (os : List ℕ) → eqb (frontLength last (o ∷ os)) 0 ≡ false → length (drop (frontLength last (o ∷ os)) (o ∷ os)) ≤ length os
+some-taken last o os f = let k = eqb-false (frontLength last (o ∷ os)) 0 f in omega (arith, length-drop (frontLength last (o ∷ os)) (o ∷ os))
+
 -- what comes behind matters only where the record takes some octets
 module _ (orders : List DropOrder) (b : Board) (n : ℕ) (o : ℕ) (os : List ℕ) (last : Bool) (room : ℕ) {p q : Playing}
     (e : length (drop (frontLength last (o ∷ os)) (o ∷ os)) ≤ length os → p ≡ q) where
-  shorter : eqb (frontLength last (o ∷ os)) 0 ≡ false → length (drop (frontLength last (o ∷ os)) (o ∷ os)) ≤ length os
-  shorter f = let k = eqb-false (frontLength last (o ∷ os)) 0 f in omega (arith, length-drop (frontLength last (o ∷ os)) (o ∷ os))
-
   same-behind : oneRecord orders b n (o ∷ os) last room p ≡ oneRecord orders b n (o ∷ os) last room q
   same-behind = go (eqb (frontLength last (o ∷ os)) 0) refl
     where
@@ -107,7 +108,7 @@ module _ (orders : List DropOrder) (b : Board) (n : ℕ) (o : ℕ) (os : List �
           cond {A = Playing} (ltb room longestLine) (pausing b n FullOutput) (cond x (pausing b n MoreInput) (rest p))
           ≡ cond (ltb room longestLine) (pausing b n FullOutput) (cond x (pausing b n MoreInput) (rest q))
       go true f = refl
-      go false f = ap (λ (z : Playing). cond {A = Playing} (ltb room longestLine) (pausing b n FullOutput) (rest z)) (e (shorter f))
+      go false f = ap (λ (z : Playing). cond {A = Playing} (ltb room longestLine) (pausing b n FullOutput) (rest z)) (e (some-taken last o os f))
 
 -- the count of `playFrom` does not matter where it is large enough
 pub enough : (k j : ℕ) (orders : List DropOrder) (b : Board) (n : ℕ) (piece : List ℕ) (last : Bool) (room : ℕ) → length piece ≤ k → length piece ≤ j

@@ -1,0 +1,239 @@
+-- Pieces of a log, of any size, give the text of the whole log: of whatever `play` returns by its contract. Assumes nothing.
+use Prim.{tt}
+use Prim.Native.Nat.{ℕ, zero, suc, _+_, _-_, _≤_, _<_}
+use native.Mathlib.Omega.{arith}
+use borrow.Author.Tests.{leb-true, leb-false, eqb-false}
+use mathlib.Core.Bool.{Bool, true, false, cond}
+use mathlib.Core.Path.{_≡_, _∙_, ap, refl, sym}
+use mathlib.Core.List.{List, [], _∷_, _++_, append-nil, append-assoc}
+use lib.Dec.{eqb, leb, ltb}
+use lib.ListN.{length, take, drop, getD, length-append, length-drop, drop-of-length-le}
+use lib.Seq.{drop-drop, take-all, take-length, drop-length, take-append-le, drop-append-le, take-at}
+use base.Fml.{GName}
+use contract.Lifetimes.{Lfts}
+use denote.Ref.{RefT}
+use Rattle.board.specs.declared.Board.{Board}
+use Rattle.rules.specs.Replies.{DropOrder}
+use Rattle.playing.specs.declared.Pause.{Pause}
+use Rattle.playing.specs.declared.Pause.the-variants.{MoreInput, FullOutput, End}
+use Rattle.playing.specs.declared.Played.{Played}
+use Rattle.playing.specs.Records.{recordLength}
+use Rattle.playing.specs.Log.{outcomeLine, orderNow, ordersLater, judged, frontRecord, behind, stopsReading, largestNumber, LogEnd, ended, withText, logFrom, logEnd}
+use Rattle.playing.specs.Playing.{frontLength, pieceRecord, pieceLine, longestLine, pauseAtEnd, Playing, pausing, withRecord, playFrom, playing, PlaysAs}
+use Rattle.playing.proofs.PlayingLaws.{some-taken}
+use Rattle.playing.proofs.play.Reads as play-contract
+
+-- ---- the count of `logFrom` does not matter where it is large enough
+
+-- every record has its kind
+some-octet : (a b c d e f : Bool) → 0 < cond a 25 (cond b 4 (cond c 4 (cond d 5 (cond e 36 (cond f 5 1)))))
+some-octet true b c d e f = omega arith
+some-octet false true c d e f = omega arith
+some-octet false false true d e f = omega arith
+some-octet false false false true e f = omega arith
+some-octet false false false false true f = omega arith
+some-octet false false false false false true = omega arith
+some-octet false false false false false false = omega arith
+
+record-some : (k : ℕ) → 0 < recordLength k
+record-some k = some-octet (eqb k 1) (eqb k 2) (eqb k 3) (eqb k 4) (eqb k 5) (eqb k 6)
+
+shorter : (o : ℕ) (os : List ℕ) → length (behind (o ∷ os)) ≤ length os
+shorter o os = omega (arith, record-some o, length-drop (recordLength o) (o ∷ os))
+
+-- one record of a log, with what comes behind it
+abbrev oneRecord : List DropOrder → Board → ℕ → List ℕ → LogEnd → LogEnd
+oneRecord orders b n log next =
+    cond (leb largestNumber n) (ended b n)
+    (withText (outcomeLine (n + 1) (frontRecord log) (judged orders b (frontRecord log)))
+    (cond (stopsReading (judged orders b (frontRecord log) .returned)) (ended (judged orders b (frontRecord log) .board) (n + 1)) next))
+
+enough : (k j : ℕ) (orders : List DropOrder) (b : Board) (n : ℕ) (log : List ℕ) → length log ≤ k → length log ≤ j → logFrom k orders b n log ≡ logFrom j orders b n log
+unfolding logFrom
+enough zero zero orders b n log h g = refl
+enough zero (suc j) orders b n [] h g = refl
+enough zero (suc j) orders b n (o ∷ os) h g = absurd (omega (arith, h))
+enough (suc k) zero orders b n [] h g = refl
+enough (suc k) zero orders b n (o ∷ os) h g = absurd (omega (arith, g))
+enough (suc k) (suc j) orders b n [] h g = refl
+enough (suc k) (suc j) orders b n (o ∷ os) h g =
+    ap (oneRecord orders b n (o ∷ os))
+    (enough k j (ordersLater orders) (judged orders b (frontRecord (o ∷ os)) .board) (n + 1) (behind (o ∷ os)) (omega (arith, h, shorter o os)) (omega (arith, g, shorter o os)))
+
+log-record : (orders : List DropOrder) (b : Board) (n o : ℕ) (os : List ℕ) →
+    logEnd orders b n (o ∷ os) ≡ oneRecord orders b n (o ∷ os) (logEnd (ordersLater orders) (judged orders b (frontRecord (o ∷ os)) .board) (n + 1) (behind (o ∷ os)))
+unfolding logFrom
+log-record orders b n o os =
+    ap (oneRecord orders b n (o ∷ os))
+    (enough (length os) (length (behind (o ∷ os))) (ordersLater orders) (judged orders b (frontRecord (o ∷ os)) .board) (n + 1) (behind (o ∷ os)) (shorter o os) (omega arith))
+
+log-most : (orders : List DropOrder) (b : Board) (n o : ℕ) (os : List ℕ) → leb largestNumber n ≡ true → logEnd orders b n (o ∷ os) ≡ ended b n
+log-most orders b n o os e = log-record orders b n o os ∙ rw e
+
+two-texts : (x y : List ℕ) (e : LogEnd) → withText x (withText y e) ≡ withText (x ++ y) e
+two-texts x y e = ap (λ (t : List ℕ). record { text = t; board = e .board; number = e .number }) (sym (append-assoc x y (e .text)))
+
+-- ---- the record in front of a piece is the one in front of the log
+
+-- what comes behind a piece: nothing behind the last one
+abbrev pub Later : Bool → List ℕ → Type 0
+Later last later = last ≡ true → later ≡ []
+
+module _ (last : Bool) (o : ℕ) (os later : List ℕ) (z : Later last later) (h : eqb (frontLength last (o ∷ os)) 0 ≡ false) where
+  abbrev n : ℕ
+  n = frontLength last (o ∷ os)
+
+  cut-last : (b : Bool) → last ≡ b → n ≡ cond b (length (o ∷ os)) 0 → (later ≡ []) × (n ≡ length (o ∷ os))
+  cut-last true t k = (z t, k)
+  cut-last false t k = absurd (eqb-false (frontLength last (o ∷ os)) 0 h k)
+
+  record-and-rest : (t : Bool) → leb (recordLength o) (length (o ∷ os)) ≡ t
+      → (pieceRecord last (o ∷ os) ≡ frontRecord (o ∷ (os ++ later))) × (drop n (o ∷ os) ++ later ≡ behind (o ∷ (os ++ later)))
+  record-and-rest true t =
+      let k : n ≡ recordLength o = rw t in
+      let l = leb-true (recordLength o) (length (o ∷ os)) t in
+      (rw k (sym (take-append-le (recordLength o) (o ∷ os) later l)), rw k (sym (drop-append-le (recordLength o) (o ∷ os) later l)))
+  record-and-rest false t =
+      let k = cut-last last refl (rw t) in
+      let l = leb-false (recordLength o) (length (o ∷ os)) t in (
+        rw (k .1, k .0, append-nil os) (take-length (o ∷ os) ∙ sym (take-all (recordLength o) (o ∷ os) (omega (arith, l)))),
+        rw (k .1, k .0, append-nil os, append-nil (drop (length (o ∷ os)) (o ∷ os))) (drop-length (o ∷ os) ∙ sym (drop-of-length-le (o ∷ os) {i = recordLength o} (omega (arith, l)))),
+      )
+
+  front-record : pieceRecord last (o ∷ os) ≡ frontRecord (o ∷ (os ++ later))
+  front-record = record-and-rest (leb (recordLength o) (length (o ∷ os))) refl .0
+
+  front-behind : drop n (o ∷ os) ++ later ≡ behind (o ∷ (os ++ later))
+  front-behind = record-and-rest (leb (recordLength o) (length (o ∷ os))) refl .1
+
+-- ---- a piece
+
+-- what the log leads to behind a pause: nothing more where playing ends
+abbrev pub afterPause : Pause → List DropOrder → Board → ℕ → List ℕ → LogEnd
+afterPause MoreInput orders b n left = logEnd orders b n left
+afterPause FullOutput orders b n left = logEnd orders b n left
+afterPause End orders b n left = ended b n
+
+-- the log leads to the text of the piece and then, whatever orders come later, to what it leads to behind the pause
+abbrev pub LeadsOn : Playing → Board → ℕ → List ℕ → List ℕ → Type 0
+LeadsOn p b n piece later =
+    (orders : List DropOrder)
+    × ((os : List DropOrder) → logEnd (orders ++ os) b n (piece ++ later) ≡ withText (p .text) (afterPause (p .pause) os (p .board) (p .number) (drop (p .read) piece ++ later)))
+
+at-end : (last : Bool) (b : Board) (n : ℕ) (later : List ℕ) → Later last later → LeadsOn (pausing b n (pauseAtEnd last)) b n [] later
+unfolding logFrom
+at-end true b n later z = ([], λ os. ap (logEnd os b n) (z refl))
+at-end false b n later z = ([], λ os. refl)
+
+module _ (orders : List DropOrder) (b : Board) (n o : ℕ) (os later : List ℕ) (last : Bool) (z : Later last later) (some : eqb (frontLength last (o ∷ os)) 0 ≡ false) where
+  abbrev line : List ℕ
+  line = pieceLine orders b n last (o ∷ os)
+
+  abbrev after : Board
+  after = judged orders b (pieceRecord last (o ∷ os)) .board
+
+  -- the record in front, by the words of the piece
+  in-front : (ds : List DropOrder) → leb largestNumber n ≡ false →
+      logEnd (orderNow orders ∷ ds) b n (o ∷ (os ++ later))
+      ≡ withText line (cond (stopsReading (judged orders b (pieceRecord last (o ∷ os)) .returned)) (ended after (n + 1)) (logEnd ds after (n + 1) (drop (frontLength last (o ∷ os)) (o ∷ os) ++ later)))
+  in-front ds e =
+      log-record (orderNow orders ∷ ds) b n o (os ++ later)
+      ∙ rw (e, sym (front-record last o os later z some), sym (front-behind last o os later z some))
+
+  abbrev left : List ℕ
+  left = drop (frontLength last (o ∷ os)) (o ∷ os)
+
+  by-test : (ds : List DropOrder) {s : Bool} → stopsReading (judged orders b (pieceRecord last (o ∷ os)) .returned) ≡ s →
+      withText line (cond (stopsReading (judged orders b (pieceRecord last (o ∷ os)) .returned)) (ended after (n + 1)) (logEnd ds after (n + 1) (left ++ later)))
+      ≡ withText line (cond s (ended after (n + 1)) (logEnd ds after (n + 1) (left ++ later)))
+  by-test ds e = ap (λ (x : Bool). withText line (cond x (ended after (n + 1)) (logEnd ds after (n + 1) (left ++ later)))) e
+
+  stops-there : leb largestNumber n ≡ false → stopsReading (judged orders b (pieceRecord last (o ∷ os)) .returned) ≡ true →
+      LeadsOn (withRecord (frontLength last (o ∷ os)) line (pausing after (n + 1) End)) b n (o ∷ os) later
+  stops-there e s = (orderNow orders ∷ [], λ ds. in-front ds e ∙ by-test ds s ∙ ap (λ (t : List ℕ). withText t (ended after (n + 1))) (sym (append-nil line)))
+
+  goes-on : (p : Playing) → leb largestNumber n ≡ false → stopsReading (judged orders b (pieceRecord last (o ∷ os)) .returned) ≡ false →
+      LeadsOn p after (n + 1) left later → LeadsOn (withRecord (frontLength last (o ∷ os)) line p) b n (o ∷ os) later
+  goes-on p e s f = (orderNow orders ∷ f .0, λ ds. in-front (f .0 ++ ds) e ∙ by-test (f .0 ++ ds) s ∙ ap (withText line) (f .1 ds) ∙ together ds)
+    where
+      together : (ds : List DropOrder) → withText line (withText (p .text) (afterPause (p .pause) ds (p .board) (p .number) (drop (p .read) left ++ later)))
+          ≡ withText (line ++ p .text) (afterPause (p .pause) ds (p .board) (p .number) (drop (frontLength last (o ∷ os) + p .read) (o ∷ os) ++ later))
+      together ds =
+          ap (λ (l : List ℕ). withText line (withText (p .text) (afterPause (p .pause) ds (p .board) (p .number) (l ++ later)))) (drop-drop (p .read) (frontLength last (o ∷ os)) (o ∷ os))
+          ∙ two-texts line (p .text) (afterPause (p .pause) ds (p .board) (p .number) (drop (frontLength last (o ∷ os) + p .read) (o ∷ os) ++ later))
+
+piece-of-log : (k : ℕ) (orders : List DropOrder) (b : Board) (n : ℕ) (piece later : List ℕ) (last : Bool) (room : ℕ) → length piece ≤ k → Later last later →
+    LeadsOn (playFrom k orders b n piece last room) b n piece later
+unfolding playFrom
+piece-of-log zero orders b n [] later last room h z = at-end last b n later z
+piece-of-log zero orders b n (o ∷ os) later last room h z = absurd (omega (arith, h))
+piece-of-log (suc k) orders b n [] later last room h z = at-end last b n later z
+piece-of-log (suc k) orders b n (o ∷ os) later last room h z =
+    go (ltb room longestLine) (eqb (frontLength last (o ∷ os)) 0) (leb largestNumber n) (stopsReading (judged orders b (pieceRecord last (o ∷ os)) .returned)) refl refl refl
+    (λ t. piece-of-log k (ordersLater orders) (judged orders b (pieceRecord last (o ∷ os)) .board) (n + 1) (drop (frontLength last (o ∷ os)) (o ∷ os)) later last (room - length (pieceLine orders b n last (o ∷ os))) (omega (arith, h, t)) z)
+  where
+    next : Playing
+    next = playFrom k (ordersLater orders) (judged orders b (pieceRecord last (o ∷ os)) .board) (n + 1) (drop (frontLength last (o ∷ os)) (o ∷ os)) last (room - length (pieceLine orders b n last (o ∷ os)))
+
+    go : (w x y s : Bool) → eqb (frontLength last (o ∷ os)) 0 ≡ x → leb largestNumber n ≡ y → stopsReading (judged orders b (pieceRecord last (o ∷ os)) .returned) ≡ s →
+        (length (drop (frontLength last (o ∷ os)) (o ∷ os)) ≤ length os → LeadsOn (playFrom k (ordersLater orders) (judged orders b (pieceRecord last (o ∷ os)) .board) (n + 1) (drop (frontLength last (o ∷ os)) (o ∷ os)) last (room - length (pieceLine orders b n last (o ∷ os)))) (judged orders b (pieceRecord last (o ∷ os)) .board) (n + 1) (drop (frontLength last (o ∷ os)) (o ∷ os)) later) →
+        LeadsOn (cond {A = Playing} w (pausing b n FullOutput) (cond x (pausing b n MoreInput) (cond y (pausing b n End)
+        (withRecord (frontLength last (o ∷ os)) (pieceLine orders b n last (o ∷ os)) (cond s (pausing (judged orders b (pieceRecord last (o ∷ os)) .board) (n + 1) End) next))))) b n (o ∷ os) later
+    go true x y s ex ey es f = ([], λ ds. refl)
+    go false true y s ex ey es f = ([], λ ds. refl)
+    go false false true s ex ey es f = ([], λ ds. log-most ds b n o (os ++ later) ey)
+    go false false false true ex ey es f = stops-there orders b n o os later last z ex ey es
+    go false false false false ex ey es f = goes-on orders b n o os later last z ex next ey es (f (some-taken last o os ex))
+
+-- ---- the calls
+
+-- a reference to octets, wherever they lie
+abbrev lent : (ℕ × ℕ) × GName → List ℕ → RefT (List ℕ)
+lent at os = record { ptr = at .0; name = at .1; now = os }
+
+-- a call of `play` that met its contract
+pub record Met (b : Board) (n : ℕ) (piece : List ℕ) (last : Bool) (before after : List ℕ) (r : Played) : Type 0 where
+  pub lifetimes : Lfts 2
+  pub piece-at : (ℕ × ℕ) × GName
+  pub buffer-at : (ℕ × ℕ) × GName
+  pub met :
+      play-contract.Post lifetimes (b, (n, (lent piece-at piece, (last, (lent buffer-at before, tt))))) r
+      (b, (n, (lent piece-at piece, (last, (lent buffer-at after, tt)))))
+
+-- calls of `play` on what is left of a log, until one ends: each gets the board and the number that the last one returned, and a piece of what is not read yet,
+-- as long as it likes and told to be the last only where it is. Their text is what they leave in the front of their buffers.
+pub data Calls : Board → ℕ → List ℕ → List ℕ → Board → ℕ → Type 0 where
+  last-call : (b : Board) (n : ℕ) (piece later : List ℕ) (last : Bool) (before after : List ℕ) (r : Played) → Later last later →
+      Met b n piece last before after r → r .pause ≡ End → Calls b n (piece ++ later) (take (r .written) after) (r .board) (r .number)
+  next-call : (b : Board) (n : ℕ) (piece later : List ℕ) (last : Bool) (before after : List ℕ) (r : Played) (text : List ℕ) (c : Board) (m : ℕ) → Later last later →
+      Met b n piece last before after r → (r .pause ≡ End → ⊥) → Calls (r .board) (r .number) (drop (r .read) piece ++ later) text c m →
+      Calls b n (piece ++ later) (take (r .written) after ++ text) c m
+
+module _ {b : Board} {n : ℕ} {piece later before after : List ℕ} {last : Bool} {r : Played} (z : Later last later) (h : Met b n piece last before after r) where
+  text-is : take (r .written) after ≡ playing (h .met .0) b n piece last (length before) .text
+  text-is =
+      let p = playing (h .met .0) b n piece last (length before) in
+      rw (h .met .1 .is, h .met .1 .buffer) (take-at (p .text) (drop (length (p .text)) before) (length (p .text)) refl)
+
+  -- the log leads to the text of the call, and then to what it leads to behind the call's pause
+  leads-on : (orders : List DropOrder)
+      × ((os : List DropOrder) → logEnd (orders ++ os) b n (piece ++ later) ≡ withText (take (r .written) after) (afterPause (r .pause) os (r .board) (r .number) (drop (r .read) piece ++ later)))
+  leads-on =
+      let f = piece-of-log (length piece) (h .met .0) b n piece later last (length before) (omega arith) z in
+      (f .0, λ os. f .1 os ∙ rw (text-is, h .met .1 .is))
+
+not-ended : (p : Pause) (os : List DropOrder) (b : Board) (n : ℕ) (left : List ℕ) → (p ≡ End → ⊥) → afterPause p os b n left ≡ logEnd os b n left
+not-ended MoreInput os b n left h = refl
+not-ended FullOutput os b n left h = refl
+not-ended End os b n left h = absurd (h refl)
+
+-- whatever the pieces and the buffers, the calls give the text of the log, and leave its board and the number of its last record
+pub pieces-give-the-log : {b c : Board} {n m : ℕ} {log text : List ℕ} → Calls b n log text c m →
+    (orders : List DropOrder) × (logEnd orders b n log ≡ record { text = text; board = c; number = m })
+pieces-give-the-log (last-call b n piece later last before after r z h e) =
+    let f = leads-on z h in
+    (f .0 ++ [], f .1 [] ∙ rw (e, append-nil (take (r .written) after)))
+pieces-give-the-log (next-call b n piece later last before after r text c m z h e k) =
+    let f = leads-on z h in
+    let g = pieces-give-the-log k in
+    (f .0 ++ g .0, f .1 (g .0) ∙ ap (withText (take (r .written) after)) (not-ended (r .pause) (g .0) (r .board) (r .number) (drop (r .read) piece ++ later) e ∙ g .1))
