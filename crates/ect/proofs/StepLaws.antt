@@ -10,13 +10,15 @@ use Rattle.board.specs.declared.Board.{Board}
 use Rattle.ect.specs.Contract.{Shows, Steps, answerNumber, answerCount}
 use Rattle.ect.specs.Effects.{Carries, verdictOf, answerTo, boardBy}
 use Rattle.replies.specs.declared.Out.{Out}
-use Rattle.replies.specs.Writing.{written, Says}
+use Rattle.replies.specs.Writing.{rendered, written}
+use Rattle.replies.proofs.WritingLaws.{rendered-len, rendered-written}
 use Rattle.ect.specs.declared.StepAnswer.{StepAnswer}
 use Rattle.ect.specs.declared.StepAnswer.the-variants.{Refused}
 use Rattle.ect.specs.declared.Stepped.{Stepped}
 use Rattle.events.specs.declared.Refusal.{Refusal}
 use Rattle.rules.specs.Checks.{refusalNumber, Refuse, Decision, OpenLeg, SetState, SetAuxiliary, ReleaseLeg, ServeCall, EndAlerting, returnedBy}
 use Rattle.rules.specs.Replies.{DropOrder, ReplyRecord, octets, NamedFirst}
+use Rattle.rules.proofs.Room.{sound-length}
 use Rattle.rules.specs.Step.{replies, step, refused, Outcome, done, decision}
 use Rattle.events.specs.declared.Refusal.the-variants as refusal
 use Rattle.ect.specs.declared.effects.Verdict.{Verdict}
@@ -52,8 +54,14 @@ shows-refused c b before = record { answer = refl; count = refl; board = refl; b
 shows-is : {o p : Outcome} {before : List ℕ} {r : Stepped} {after : List ℕ} → o ≡ p → Shows p before r after → Shows o before r after
 shows-is {before = before} {r = r} {after = after} h k = subst⁻¹ (λ (x : Outcome). Shows x before r after) h k
 
-copied : {o : Out} {rs : List ReplyRecord} {b : List ℕ} (before : List ℕ) → Says o rs → b ≡ written o ++ drop (o .len) before → b ≡ octets rs ++ drop (length (octets rs)) before
-copied before s e = e ∙ rw (s .is, s .long)
+copied : {o : Out} (rs : List ReplyRecord) {b : List ℕ} (before : List ℕ) → o ≡ rendered rs → b ≡ written o ++ drop (o .len) before → b ≡ octets rs ++ drop (length (octets rs)) before
+copied rs before s e = e ∙ rw (s, rendered-written rs, rendered-len rs)
+
+written-len : {e : Effect} {b : Board} {d : Decision} → Carries e b d → e .out .len ≡ length (octets (replies NamedFirst (b .rows) d))
+written-len {b = b} {d = d} k = ap (λ (o : Out). o .len) (k .says) ∙ rendered-len (replies NamedFirst (b .rows) d)
+
+pub fits : {e : Effect} {b : Board} {d : Decision} → sound b ≡ true → Carries e b d → e .out .len ≤ 92
+fits {b = b} {d = d} s k = rw (written-len k) (sound-length NamedFirst b s d)
 
 module _ (b : Board) (os before : List ℕ) where
   pub too-small : length before < 128 → Steps b os before (stepped (Refused refusal.BufferTooSmall) b) before
@@ -91,8 +99,8 @@ module _ (b : Board) (os before : List ℕ) where
           shows-is (decides NamedFirst b os (length before) h s)
               (record {
                 answer = ap answerNumber u ∙ answer-by d n;
-                count = ap answerCount u ∙ count-by d n (m ∙ k .says .long);
+                count = ap answerCount u ∙ count-by d n (m ∙ written-len k);
                 board = w ∙ k .board;
-                buffer = copied before (k .says) q;
+                buffer = copied (replies NamedFirst (b .rows) d) before (k .says) q;
               }),
         )

@@ -2,7 +2,7 @@ use native.Mathlib.Omega.{arith}
 use Rattle.octets.proofs.Lists.{is-not}
 use Rattle.octets.proofs.Places.{told}
 use Rattle.serving.proofs.PairingLaws.{was-true}
-use Rattle.ect.proofs.StepLaws.{too-small, not-sound, step-done}
+use Rattle.ect.proofs.StepLaws.{too-small, not-sound, fits, step-done}
 use borrow.Author.Needs.{needs}
 use Rattle.ect.proofs.step.Statement.{statement}
 use Rattle.ect.proofs.step.Tie as tie
@@ -24,7 +24,9 @@ effect-of-requires : tie.Need-effect-of-requires
 effect-of-requires c κs = search needs
 
 copy-out-requires : tie.Need-copy-out-requires
-copy-out-requires c κs = search needs
+copy-out-requires c κs =
+    let f = fits (told (c .before .before .before .before .sound .ensures) (was-true _ (c .before .before .before .if2 .left))) (c .before .before .effect-of .ensures) in
+    (omega (arith, f), omega (arith, f))
 
 answer-to-requires : tie.Need-answer-to-requires
 answer-to-requires c κs = search needs
