@@ -1,7 +1,7 @@
 -- Octets put in one after the other are put in at once; a component of at most 32 octets is they and then zeros. Assumes nothing.
 use Prim.Native.Nat.{ℕ, zero, suc, _+_, _-_, _≤_}
 use native.Mathlib.Omega.{arith}
-use mathlib.Core.Path.{_≡_, refl, sym, ap, _∙_}
+use mathlib.Core.Path.{_≡_, _∙_}
 use mathlib.Core.List.{List, [], _∷_, _++_}
 use lib.ListN.{length, drop, set, replicate, length-append}
 use lib.Seq.{sets, sets-eq}
@@ -9,9 +9,9 @@ use Rattle.octets.specs.declared.IntegerOctets.{IntegerOctets}
 use Rattle.component.specs.declared.Component.{Component}
 use Rattle.component.specs.Answers.{element, integer}
 use Rattle.component.specs.Reading.{ectObject}
-use Rattle.component.specs.Writers.{blank, appended, Grown, identified}
+use Rattle.component.specs.Writers.{blank, Grown, identified}
 
-sets-append : (x y l : List ℕ) (i : ℕ) → sets (sets l i x) (i + length x) y ≡ sets l i (x ++ y)
+pub sets-append : (x y l : List ℕ) (i : ℕ) → sets (sets l i x) (i + length x) y ≡ sets l i (x ++ y)
 sets-append [] y l i =
     let e : i + 0 ≡ i = omega arith in
     rw e
@@ -48,7 +48,7 @@ sequence i o {n} {k} h p q r s t =
     let g : 8 + n + 2 ≡ length (element 0x30 (element 0x06 (ectObject k) ++ integer o)) = omega arith in
     follow 0xA2 i (rw g at p) (join q (join (rw f at r) (join s t)))
 
-drop-zeros : (n k : ℕ) → drop {A = ℕ} n (replicate k 0) ≡ replicate (k - n) 0
+pub drop-zeros : (n k : ℕ) → drop {A = ℕ} n (replicate k 0) ≡ replicate (k - n) 0
 drop-zeros zero k =
     let e : k - 0 ≡ k = omega arith in
     rw e

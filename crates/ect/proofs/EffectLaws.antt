@@ -32,7 +32,7 @@ use Rattle.board.specs.declared.FoundParty.{FoundParty}
 use Rattle.board.specs.declared.FoundParty.the-variants as found-party
 use Rattle.component.specs.Reading.{reading}
 use Rattle.ect.specs.Effects.{Describes, Carries, Does, effect, openedRow, candidateBy, boardBy, partyFound, entryFound}
-use Rattle.replies.specs.Writing.{Says, numberTold, transferRecords}
+use Rattle.replies.specs.Writing.{rendered, numberTold, transferRecords}
 use Rattle.events.specs.EventRecords.{Request, request}
 use Rattle.events.specs.declared.Refusal.{Refusal}
 use Rattle.octets.specs.Lists.{any}
@@ -40,7 +40,7 @@ use Rattle.octets.specs.declared.CallReference.{CallReference}
 use Rattle.octets.specs.declared.IntegerOctets.{IntegerOctets}
 use Rattle.octets.specs.declared.LinkId.{LinkId}
 use Rattle.rules.specs.Checks.{Refuse, opened, OpenLeg, SetState, SetAuxiliary, ReleaseLeg, EndAlerting, ServeCall, Decision, decideOpen, decideProgress, mayProgress, decideHold, mayHold, decideRelease, decideAnswer, decideAlerting, decideFacility, decide}
-use Rattle.rules.specs.Replies.{NamedFirst, Drop, Gone, numberAt, Tell, facility, transferredActive, Reply, ReplyRecord}
+use Rattle.rules.specs.Replies.{NamedFirst, Drop, Gone, numberAt, Tell, facility, transferredActive, Reply}
 use Rattle.rules.specs.Serving.{serve}
 use Rattle.rules.specs.Step.{serviceReplies, replies, boardAfter, rowsAfter, candidateAfter, decision}
 use Rattle.board.specs.declared.Change.the-variants as change
@@ -63,11 +63,11 @@ transfer-replies : {rows : List Row} {p q : Party} {f g : FarParty} (r : CallRef
     → transferRecords r i f g ≡ serviceReplies NamedFirst rows (r .0) (Transfer p q i)
 transfer-replies r i d e = rw (d .reference, d .leg, d .alerts, d .number, e .reference, e .leg, e .alerts, e .number)
 
-pub refused : (c : Refusal) {row : Row} {o : Out} → Says o [] → Does (effect (Refused c) Stay row o) (Refuse c)
+pub refused : (c : Refusal) {row : Row} {o : Out} → o ≡ rendered [] → Does (effect (Refused c) Stay row o) (Refuse c)
 unfolding boardAfter rowsAfter candidateAfter replies
 refused c e b = record { verdict = refl; board = refl; says = e }
 
-pub opened-leg : (b : Board) (r l : ℕ) (d : Direction) (p n : ℕ) (ds : List ℕ) {row : Row} {o : Out} → row ≡ openedRow r l d p n ds → Says o [] →
+pub opened-leg : (b : Board) (r l : ℕ) (d : Direction) (p n : ℕ) (ds : List ℕ) {row : Row} {o : Out} → row ≡ openedRow r l d p n ds → o ≡ rendered [] →
     Carries (effect Accepted Enter row o) b (OpenLeg l (opened r d) p n ds)
 unfolding boardAfter rowsAfter candidateAfter replies
 opened-leg b r l d p n ds h e = record { verdict = refl; board = ap (λ (x : Row). withRows (enter x (b .rows)) b) h; says = e }
@@ -80,49 +80,49 @@ module _ {e : Effect} {o : Out} where
   by-made : {d : Deed} (x : Decision) → Made e o d → Does (effect Accepted d emptyRow o) x → Does e x
   by-made x h k = subst⁻¹ (λ (v : Effect). Does v x) h k
 
-  pub state-set : (r : CallReference) (s : CallState) → Made e o (Apply (change.SetState r s)) → Says o [] → Does e (SetState (r .0) s)
+  pub state-set : (r : CallReference) (s : CallState) → Made e o (Apply (change.SetState r s)) → o ≡ rendered [] → Does e (SetState (r .0) s)
   unfolding boardAfter rowsAfter candidateAfter replies
   state-set r s h z = by-made (SetState (r .0) s) h (λ b. record { verdict = refl; board = refl; says = z })
 
-  pub auxiliary-set : (r : CallReference) (a : AuxiliaryState) → Made e o (Apply (change.SetAuxiliary r a)) → Says o [] → Does e (SetAuxiliary (r .0) a)
+  pub auxiliary-set : (r : CallReference) (a : AuxiliaryState) → Made e o (Apply (change.SetAuxiliary r a)) → o ≡ rendered [] → Does e (SetAuxiliary (r .0) a)
   unfolding boardAfter rowsAfter candidateAfter replies
   auxiliary-set r a h z = by-made (SetAuxiliary (r .0) a) h (λ b. record { verdict = refl; board = refl; says = z })
 
-  pub call-released : (l : ℕ) (c : Call) → Made e o (Apply (change.Release l)) → Says o (Drop (c .reference .0) ∷ []) → Does e (ReleaseLeg (entry l (WithUser c)))
+  pub call-released : (l : ℕ) (c : Call) → Made e o (Apply (change.Release l)) → o ≡ rendered (Drop (c .reference .0) ∷ []) → Does e (ReleaseLeg (entry l (WithUser c)))
   unfolding boardAfter rowsAfter candidateAfter replies
   call-released l c h k = by-made (ReleaseLeg (entry l (WithUser c))) h (λ b. record { verdict = refl; board = refl; says = k })
 
-  pub pair-released : (l p : ℕ) (a : Bool) → Made e o (Apply (change.ReleasePair l p)) → Says o (Gone p ∷ []) → Does e (ReleaseLeg (entry l (WithPartner p a)))
+  pub pair-released : (l p : ℕ) (a : Bool) → Made e o (Apply (change.ReleasePair l p)) → o ≡ rendered (Gone p ∷ []) → Does e (ReleaseLeg (entry l (WithPartner p a)))
   unfolding boardAfter rowsAfter candidateAfter replies
   pair-released l p a h k = by-made (ReleaseLeg (entry l (WithPartner p a))) h (λ b. record { verdict = refl; board = refl; says = k })
 
   pub alerting-ended : (b : Board) (l p : ℕ) {t : Told} → Made e o (Apply (change.EndAlerting l)) → numberTold t ≡ numberAt (b .rows) l →
-      Says o (Tell p facility transferredActive (numberTold t) 0 ∷ []) → Carries e b (EndAlerting l p)
+      o ≡ rendered (Tell p facility transferredActive (numberTold t) 0 ∷ []) → Carries e b (EndAlerting l p)
   unfolding boardAfter rowsAfter candidateAfter replies
   alerting-ended b l p h n k =
       subst⁻¹ (λ (v : Effect). Carries v b (EndAlerting l p)) h
       (record { verdict = refl; board = refl; says = rw n at k })
 
   module _ (p : Party) where
-    pub served-silent : Made e o Stay → Says o [] → Does e (ServeCall p Silent)
+    pub served-silent : Made e o Stay → o ≡ rendered [] → Does e (ServeCall p Silent)
     unfolding boardAfter rowsAfter candidateAfter replies
     served-silent h z = by-made (ServeCall p Silent) h (λ b. record { verdict = refl; board = refl; says = z })
 
-    pub responded : (a : ComponentAnswer) → Made e o Stay → Says o (Reply (p .call .reference .0) a ∷ []) → Does e (ServeCall p (Respond a))
+    pub responded : (a : ComponentAnswer) → Made e o Stay → o ≡ rendered (Reply (p .call .reference .0) a ∷ []) → Does e (ServeCall p (Respond a))
     unfolding boardAfter rowsAfter candidateAfter replies
     responded a h k = by-made (ServeCall p (Respond a)) h (λ b. record { verdict = refl; board = refl; says = k })
 
     pub assigned-link : (l : LinkId) (i : IntegerOctets) → Made e o (Apply (change.SetLinkId (p .call .reference) l)) →
-        Says o (Reply (p .call .reference .0) (answer.LinkIdResult i l) ∷ []) → Does e (ServeCall p (AssignLinkId l i))
+        o ≡ rendered (Reply (p .call .reference .0) (answer.LinkIdResult i l) ∷ []) → Does e (ServeCall p (AssignLinkId l i))
     unfolding boardAfter rowsAfter candidateAfter replies
     assigned-link l i h k = by-made (ServeCall p (AssignLinkId l i)) h (λ b. record { verdict = refl; board = refl; says = k })
 
     pub transferred-calls : (b : Board) (x y : Party) (i : IntegerOctets) {f g : FarParty} → Made e o (Apply (change.Join (x .leg) (y .leg))) →
-        Describes (b .rows) x f → Describes (b .rows) y g → Says o (transferRecords (p .call .reference) i f g) → Carries e b (ServeCall p (Transfer x y i))
+        Describes (b .rows) x f → Describes (b .rows) y g → o ≡ rendered (transferRecords (p .call .reference) i f g) → Carries e b (ServeCall p (Transfer x y i))
     unfolding boardAfter rowsAfter candidateAfter replies
     transferred-calls b x y i h d₁ d₂ k =
         subst⁻¹ (λ (v : Effect). Carries v b (ServeCall p (Transfer x y i))) h
-        (record { verdict = refl; board = refl; says = subst (λ (rs : List ReplyRecord). Says o rs) (transfer-replies (p .call .reference) i d₁ d₂) k })
+        (record { verdict = refl; board = refl; says = k ∙ ap rendered (transfer-replies (p .call .reference) i d₁ d₂) })
 
 -- ---- the board that is made
 

@@ -10,7 +10,8 @@ use Rattle.board.specs.declared.Board.{Board}
 use Rattle.ect.specs.Contract.{Shows, Steps, StepsTested, answerNumber, answerCount}
 use Rattle.ect.specs.Effects.{Carries, verdictOf, answerTo, boardBy}
 use Rattle.replies.specs.declared.Out.{Out}
-use Rattle.replies.specs.Writing.{written, Says}
+use Rattle.replies.specs.Writing.{rendered, written}
+use Rattle.replies.proofs.WritingLaws.{rendered-len, rendered-written, rendered-fits}
 use Rattle.ect.specs.declared.StepAnswer.{StepAnswer}
 use Rattle.ect.specs.declared.StepAnswer.the-variants.{Refused}
 use Rattle.ect.specs.declared.Stepped.{Stepped}
@@ -45,8 +46,15 @@ shows-refused c b before = record { answer = refl; count = refl; board = refl; b
 shows-is : {o p : Outcome} {before : List ℕ} {r : Stepped} {after : List ℕ} → o ≡ p → Shows p before r after → Shows o before r after
 shows-is {before = before} {r = r} {after = after} h k = subst⁻¹ (λ (x : Outcome). Shows x before r after) h k
 
-copied : {o : Out} {rs : List ReplyRecord} {b : List ℕ} (before : List ℕ) → Says o rs → b ≡ written o ++ drop (o .len) before → b ≡ octets rs ++ drop (length (octets rs)) before
-copied before s e = e ∙ rw (s .is, s .long)
+copied : {o : Out} (rs : List ReplyRecord) {b : List ℕ} (before : List ℕ) → o ≡ rendered rs → b ≡ written o ++ drop (o .len) before → b ≡ octets rs ++ drop (length (octets rs)) before
+copied rs before s e = e ∙ rw (s, rendered-written rs, rendered-len rs)
+
+written-len : {e : Effect} {b : Board} {d : Decision} → Carries e b d → e .out .len ≡ length (octets (replies NamedFirst (b .rows) d))
+written-len {b = b} {d = d} k = ap (λ (o : Out). o .len) (k .says) ∙ rendered-len (replies NamedFirst (b .rows) d)
+
+-- the replies fit their array, whatever the board
+pub fits : {e : Effect} {b : Board} {d : Decision} → length (e .out .octets) ≡ 128 → Carries e b d → e .out .len ≤ 128
+fits {b = b} {d = d} l k = rendered-fits (replies NamedFirst (b .rows) d) (k .says) l
 
 -- the test handed in is the board's own
 pub own-test : (b : Board) (os before after : List ℕ) (r : Stepped) {tested : Bool} → tested ≡ sound b → StepsTested tested b os before r after → Steps b os before r after
@@ -90,8 +98,8 @@ module _ (b : Board) (os before : List ℕ) where
           shows-is (enough true NamedFirst b os (length before) h)
               (record {
                 answer = ap answerNumber u ∙ answer-by d n;
-                count = ap answerCount u ∙ count-by d n (m ∙ k .says .long);
+                count = ap answerCount u ∙ count-by d n (m ∙ written-len k);
                 board = w ∙ k .board;
-                buffer = copied before (k .says) q;
+                buffer = copied (replies NamedFirst (b .rows) d) before (k .says) q;
               }),
         )

@@ -33,7 +33,7 @@ use Rattle.ect.specs.declared.effects.Deed.the-variants.{Stay, Enter, Ap
 use Rattle.ect.specs.declared.effects.Effect.{Effect}
 use Rattle.replies.specs.declared.Out.{Out}
 use Rattle.replies.specs.declared.FarParty.{FarParty}
-use Rattle.replies.specs.Writing.{Says, numberTold}
+use Rattle.replies.specs.Writing.{rendered, numberTold}
 use Rattle.serving.specs.Parties.{entriesOf}
 
 -- the row that an Open enters
@@ -77,7 +77,7 @@ boardBy (Apply c) row b = record { rows = changedRows c (b .rows); options = b .
 pub record Carries (r : Effect) (b : Board) (d : Decision) : Type 0 where
   pub verdict : r .verdict ≡ verdictOf d
   pub board : boardBy (r .deed) (r .row) b ≡ boardAfter d b
-  pub says : Says (r .out) (replies NamedFirst (b .rows) d)
+  pub says : r .out ≡ rendered (replies NamedFirst (b .rows) d)
 
 -- the effect is that of the decision on any board
 abbrev pub Does : Effect → Decision → Type 0

@@ -1,2 +1,3 @@
 -- Laws that the proofs of the code cite.
+pub mod Room
 pub mod WritingLaws

@@ -1,8 +1,9 @@
--- What the replies of an event say, and what each writer of a record adds. No public contract cites `Grown` and `Adds`.
-use Prim.Native.Nat.{ℕ, _+_, _≤_}
+-- The replies of an event as a value, and what each writer of a record adds. No public contract cites `blank`, `appended`, `Grown` and `Adds`.
+use Prim.Native.Nat.{ℕ, _+_, _-_}
 use mathlib.Core.Path.{_≡_}
 use mathlib.Core.List.{List, [], _∷_, _++_}
-use lib.ListN.{length, take}
+use lib.ListN.{length, take, replicate}
+use lib.Seq.{sets}
 use Rattle.octets.specs.declared.CallReference.{CallReference}
 use Rattle.octets.specs.declared.IntegerOctets.{IntegerOctets}
 use Rattle.component.specs.declared.Answer.the-variants as answer
@@ -11,25 +12,29 @@ use Rattle.replies.specs.declared.Told.{Told}
 use Rattle.replies.specs.declared.FarParty.{FarParty}
 use Rattle.rules.specs.Replies.{Number, ReplyRecord, Reply, octets, NamedFirst, drops, told}
 
+-- the octets of the records, in their order, and zeros behind them
+unfoldable pub rendered : List ReplyRecord → Out
+rendered rs = record { octets = octets rs ++ replicate (128 - length (octets rs)) 0; len = length (octets rs) }
+
 -- the octets written so far
 abbrev pub written : Out → List ℕ
 written o = take (o .len) (o .octets)
 
--- r has what o has, and then more
+abbrev pub blank : Out
+blank = record { octets = replicate 128 0; len = 0 }
+
+-- o with more octets from its length on
+abbrev pub appended : Out → List ℕ → Out
+appended o more = record { octets = sets (o .octets) (o .len) more; len = o .len + length more }
+
 pub record Grown (o r : Out) (more : List ℕ) : Type 0 where
-  pub is : written r ≡ written o ++ more
+  pub is : r ≡ appended o more
   pub long : r .len ≡ o .len + length more
 
--- r has what o has, and then these records, in n octets
+-- o with these records, in n octets
 pub record Adds (o r : Out) (rs : List ReplyRecord) (n : ℕ) : Type 0 where
   pub grown : Grown o r (octets rs)
   pub room : r .len ≡ o .len + n
-
--- o has these records and nothing else, in at most 92 octets
-pub record Says (o : Out) (rs : List ReplyRecord) : Type 0 where
-  pub is : written o ≡ octets rs
-  pub long : o .len ≡ length (octets rs)
-  pub room : o .len ≤ 92
 
 abbrev pub numberTold : Told → Number
 numberTold t = record { mark = t .mark; count = t .count; digits = t .digits }

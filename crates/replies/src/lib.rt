@@ -12,7 +12,7 @@ ghost use lib.ListN.{length};
 ghost use Rattle.octets.specs.Numbers.{four};
 ghost use Rattle.rules.specs.Replies.{Reply, Tell, Drop, Gone, markOnly, numberOfRow, told};
 ghost use Rattle.rules.specs.Replies.{facility, transferredActive};
-ghost use Rattle.replies.specs.Writing.{Grown, Adds, Says, numberTold, transferRecords};
+ghost use Rattle.replies.specs.Writing.{Grown, Adds, rendered, numberTold, transferRecords};
 
 const FACILITY: u8 = 0;
 
@@ -177,7 +177,7 @@ impl Out {
 
 // No record.
 pub fn nothing() -> Out
-    ensures { λ r. ⌜ Says r [] ⌝ }
+    ensures { λ r. ⌜ r ≡ rendered [] ⌝ }
 {
     Out {
         octets: [0u8; 128],
@@ -187,28 +187,28 @@ pub fn nothing() -> Out
 
 // The answer to a component.
 pub fn reply(reference: CallReference, answer: Answer) -> Out
-    ensures { λ r. ⌜ Says r (Reply (reference .0) answer ∷ []) ⌝ }
+    ensures { λ r. ⌜ r ≡ rendered (Reply (reference .0) answer ∷ []) ⌝ }
 {
     nothing().push_reply(reference, answer)
 }
 
 // The release of a served call.
 pub fn drop_notice(reference: CallReference) -> Out
-    ensures { λ r. ⌜ Says r (Drop (reference .0) ∷ []) ⌝ }
+    ensures { λ r. ⌜ r ≡ rendered (Drop (reference .0) ∷ []) ⌝ }
 {
     nothing().push_drop(reference)
 }
 
 // The release of a joined leg, told to its partner.
 pub fn gone(leg: u32) -> Out
-    ensures { λ r. ⌜ Says r (Gone leg ∷ []) ⌝ }
+    ensures { λ r. ⌜ r ≡ rendered (Gone leg ∷ []) ⌝ }
 {
     nothing().push_gone(leg)
 }
 
 // What an answer tells the partner.
 pub fn answer_told(partner: u32, number: Told) -> Out
-    ensures { λ r. ⌜ Says r (Tell partner facility transferredActive (numberTold number) 0 ∷ []) ⌝ }
+    ensures { λ r. ⌜ r ≡ rendered (Tell partner facility transferredActive (numberTold number) 0 ∷ []) ⌝ }
 {
     nothing().push_tell(partner, FACILITY, TRANSFERRED_ACTIVE, number, 0)
 }
@@ -220,7 +220,7 @@ pub fn transfer(
     named: FarParty,
     other: FarParty,
 ) -> Out
-    ensures { λ r. ⌜ Says r (transferRecords reference identifier named other) ⌝ }
+    ensures { λ r. ⌜ r ≡ rendered (transferRecords reference identifier named other) ⌝ }
 {
     nothing()
         .push_reply(reference, Answer::Result(identifier))

@@ -9,7 +9,6 @@ use lib.Dec.{eqb, leb, ltb}
 use lib.ListN.{length, length-append, replicate, length-replicate, take}
 use Rattle.board.specs.declared.Connection.{Connection}
 use Rattle.board.specs.declared.Connection.the-variants.{WithUser, WithPartner}
-use Rattle.board.specs.declared.Party.{Party}
 use Rattle.board.specs.Entries.{occupied}
 use Rattle.board.specs.Making.{options}
 use Rattle.board.specs.Soundness.{validDigits, validStanding, validRow, sound, soundRows, validOptions}
@@ -34,7 +33,7 @@ use Rattle.component.specs.declared.Answer.{Answer}
 
 -- ---- each record
 
-reply-length : (r : ℕ) (a : Answer) → length (recordOctets (Reply r a)) ≡ 36
+pub reply-length : (r : ℕ) (a : Answer) → length (recordOctets (Reply r a)) ≡ 36
 reply-length r a =
     let q = length-append (answerOctets a) (replicate (32 - length (answerOctets a)) 0) in
     let w = length-replicate {A = ℕ} (32 - length (answerOctets a)) 0 in
@@ -81,7 +80,7 @@ told-length l true b n h = omega arith
 
 -- ---- the records of an event
 
-one-length : (r : ReplyRecord) → length (octets (r ∷ [])) ≡ length (recordOctets r)
+pub one-length : (r : ReplyRecord) → length (octets (r ∷ [])) ≡ length (recordOctets r)
 unfolding octets
 one-length r = let e = length-append (recordOctets r) [] in omega arith
 
@@ -90,14 +89,17 @@ unfolding octets
 drops-length NamedFirst a b rest = omega arith
 drops-length OtherFirst a b rest = omega arith
 
-tells-length : (rows : List Row) → all validRow rows ≡ true → (p q : Party) → length (octets (tells rows p q)) ≡ 50
+pub tells-length : (l m : ℕ) (a b : Bool) (n k : Number) → length (n .digits) ≡ 15 → length (k .digits) ≡ 15 → length (octets (told l a b n ∷ told m b a k ∷ [])) ≡ 50
 unfolding octets
-tells-length rows k p q =
-    let a = told-length (p .leg) (delivered (p .call)) (delivered (q .call)) (numberAt rows (q .leg)) (number-length rows k (q .leg)) in
-    let b = told-length (q .leg) (delivered (q .call)) (delivered (p .call)) (numberAt rows (p .leg)) (number-length rows k (p .leg)) in
-    let e = length-append (recordOctets (told (p .leg) (delivered (p .call)) (delivered (q .call)) (numberAt rows (q .leg)))) (octets (told (q .leg) (delivered (q .call)) (delivered (p .call)) (numberAt rows (p .leg)) ∷ [])) in
-    let f = length-append (recordOctets (told (q .leg) (delivered (q .call)) (delivered (p .call)) (numberAt rows (p .leg)))) [] in
-    omega arith
+tells-length l m a b n k h j =
+    let e = length-append (recordOctets (told l a b n)) (octets (told m b a k ∷ [])) in
+    omega (arith, told-length l a b n h, told-length m b a k j, one-length (told m b a k))
+
+pub transfer-length : (order : DropOrder) (r : ℕ) (x : Answer) (a b : ℕ) (rest : List ReplyRecord) → length (octets rest) ≡ 50 → length (octets (Reply r x ∷ (drops order a b ++ rest))) ≡ 92
+unfolding octets
+transfer-length order r x a b rest h =
+    let e = length-append (recordOctets (Reply r x)) (octets (drops order a b ++ rest)) in
+    omega (arith, reply-length r x, drops-length order a b rest, h)
 
 service-length : (order : DropOrder) (rows : List Row) → all validRow rows ≡ true → (r : ℕ) (v : Service) → length (octets (serviceReplies order rows r v)) ≤ 92
 unfolding octets
@@ -105,10 +107,8 @@ service-length order rows k r Silent = zero-le
 service-length order rows k r (Respond a) = let e = one-length (Reply r a) in let f = reply-length r a in omega arith
 service-length order rows k r (AssignLinkId l i) = let e = one-length (Reply r (answer.LinkIdResult i l)) in let f = reply-length r (answer.LinkIdResult i l) in omega arith
 service-length order rows k r (Transfer p q i) =
-    let e = length-append (recordOctets (Reply r (answer.Result i))) (octets (drops order (p .call .reference .0) (q .call .reference .0) ++ tells rows p q)) in
-    let f = reply-length r (answer.Result i) in
-    let g = drops-length order (p .call .reference .0) (q .call .reference .0) (tells rows p q) in
-    let w = tells-length rows k p q in
+    let w = tells-length (p .leg) (q .leg) (delivered (p .call)) (delivered (q .call)) (numberAt rows (q .leg)) (numberAt rows (p .leg)) (number-length rows k (q .leg)) (number-length rows k (p .leg)) in
+    let e = transfer-length order r (answer.Result i) (p .call .reference .0) (q .call .reference .0) (tells rows p q) w in
     omega arith
 
 release-length : (t : Connection) → length (octets (releaseReplies t)) ≤ 92
@@ -116,7 +116,7 @@ unfolding octets
 release-length (WithUser c) = omega arith
 release-length (WithPartner p a) = omega arith
 
-pub replies-length : (order : DropOrder) (rows : List Row) → all validRow rows ≡ true → (d : Decision) → length (octets (replies order rows d)) ≤ 92
+replies-length : (order : DropOrder) (rows : List Row) → all validRow rows ≡ true → (d : Decision) → length (octets (replies order rows d)) ≤ 92
 unfolding octets replies
 replies-length order rows k (Refuse c) = zero-le
 replies-length order rows k (OpenLeg l c p n ds) = zero-le

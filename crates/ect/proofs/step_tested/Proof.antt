@@ -1,8 +1,10 @@
 -- `ect::step_tested` meets its contract. Assumes nothing.
 use native.Mathlib.Omega.{arith}
+use mathlib.Core.Path.{_≡_}
+use lib.ListN.{length}
 use Rattle.octets.proofs.Lists.{is-not}
 use Rattle.serving.proofs.PairingLaws.{was-true}
-use Rattle.ect.proofs.StepLaws.{too-small, not-sound, step-done}
+use Rattle.ect.proofs.StepLaws.{too-small, not-sound, fits, step-done}
 use borrow.Author.Needs.{needs}
 use Rattle.ect.proofs.step_tested.Statement.{statement}
 use Rattle.ect.proofs.step_tested.Tie as tie
@@ -20,8 +22,14 @@ returns-2 c =
 effect-of-requires : tie.Need-effect-of-requires
 effect-of-requires c κs = search needs
 
+-- the replies lie in an array of 128 octets
+long : (c : tie.After-copy-out-arg) → length (c .before .before .effect-of .result .out .octets) ≡ 128
+long c = search needs
+
 copy-out-requires : tie.Need-copy-out-requires
-copy-out-requires c κs = search needs
+copy-out-requires c κs =
+    let f = fits (long c) (c .before .before .effect-of .ensures) in
+    (f, omega (arith, f))
 
 answer-to-requires : tie.Need-answer-to-requires
 answer-to-requires c κs = search needs
