@@ -1,4 +1,4 @@
-// Runs cases and prints a line for each: every refusal of `step`, a transfer, and the published codings.
+// Runs cases and prints a line for each: every refusal of `step`, and a transfer.
 use board::Board;
 use board::Options;
 use ect::StepAnswer;
@@ -7,7 +7,6 @@ use events::Refusal;
 use show::decimal;
 use show::text;
 
-mod codings;
 mod show;
 mod transfer;
 
@@ -131,5 +130,4 @@ fn main() {
     before_the_board(fresh);
     on_the_board(fresh);
     transfer::ward_transfer(fresh);
-    codings::all();
 }

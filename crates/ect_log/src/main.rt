@@ -5,6 +5,7 @@
 use board::Board;
 use board::Counted;
 use board::fresh;
+use libc::STDERR_FILENO;
 use libc::STDIN_FILENO;
 use libc::STDOUT_FILENO;
 use playing::Pause;
@@ -14,14 +15,20 @@ ghost use Prim.Native.Nat.{_+_, _≤_};
 ghost use lib.ListN.{length};
 
 // A log being played: the board, the number of the last record, where in the buffer the octets lie that are read and
-// not yet played, and whether the log has ended and is played to its end.
+// not yet played, whether the log has ended, whether all was written so far, and whether there is nothing more to play.
 struct Log {
     board: Board,
     number: u64,
     from: usize,
     to: usize,
     ended: bool,
+    is_written: bool,
     stopped: bool,
+}
+
+// A program has no exit status, so that what fails is said on standard error.
+fn complain(words: &[u8]) {
+    io::write_all(STDERR_FILENO, words);
 }
 
 // Reads once, behind what is held; 0 where the log has ended, or cannot be read.
@@ -30,14 +37,21 @@ fn read_behind(held: usize, input: &mut [u8]) -> usize
     ensures { λ r. ⌜ held + r ≤ length (now (input .exit)) ⌝ }
 {
     let got = libc::read(STDIN_FILENO, &mut input[held..]);
+    if got < 0 {
+        complain(b"ect_log: cannot read\n");
+    }
     io::count(got, &input[held..])
 }
 
-// Writes the front of a text.
+// Writes the front of a text. Where that fails nothing more is written, and the play stops.
 fn write(n: usize, text: &[u8]) -> bool
     requires { ⌜ n ≤ length (now text) ⌝ }
 {
-    io::write_all(STDOUT_FILENO, &text[..n])
+    if io::write_all(STDOUT_FILENO, &text[0..n]) {
+        return true;
+    }
+    complain(b"ect_log: cannot write\n");
+    false
 }
 
 // The two option octets, or fewer where the log has no more; and what came with them.
@@ -95,8 +109,12 @@ fn turn(log: Log, input: &mut [u8], output: &mut [u8]) -> Log
         from: from + played.read,
         to,
         ended: log.ended,
+        is_written,
         stopped: !is_written,
     };
+    if !is_written {
+        return next;
+    }
     let pause = played.pause;
     match pause {
         Pause::MoreInput => refill(next, input),
@@ -108,21 +126,21 @@ fn turn(log: Log, input: &mut [u8], output: &mut [u8]) -> Log
     }
 }
 
-// The board at the log's end. A proved loop has to end and nothing says that a log does, so the loop counts its turns
+// The log at its end. A proved loop has to end and nothing says that a log does, so the loop counts its turns
 // down from a number that no run uses up.
-fn run(start: Log, input: &mut [u8], output: &mut [u8]) -> Board
+fn run(start: Log, input: &mut [u8], output: &mut [u8]) -> Log
     requires { ⌜ (start .from ≤ start .to) × (start .to ≤ length (now input)) ⌝ }
 {
     let mut log = start;
     let mut turns = u64::MAX;
     while turns > 0 {
         if log.stopped {
-            return log.board;
+            return log;
         }
         log = turn(log, input, output);
         turns -= 1;
     }
-    log.board
+    log
 }
 
 fn write_bad_options(output: &mut [u8]) {
@@ -130,9 +148,9 @@ fn write_bad_options(output: &mut [u8]) {
     write(n, output);
 }
 
-fn write_first(output: &mut [u8]) {
+fn write_first(output: &mut [u8]) -> bool {
     let n = log_text::first_line(output);
-    write(n, output);
+    write(n, output)
 }
 
 // The counts of a board that the component returned. Such a board is sound.
@@ -162,7 +180,9 @@ fn main() {
         write_bad_options(&mut output);
         return;
     }
-    write_first(&mut output);
+    if !write_first(&mut output) {
+        return;
+    }
     let board = made.board;
     let start = Log {
         board,
@@ -170,8 +190,11 @@ fn main() {
         from: 2,
         to: held,
         ended: false,
+        is_written: true,
         stopped: false,
     };
     let last = run(start, &mut input, &mut output);
-    write_end(last, &mut output);
+    if last.is_written {
+        write_end(last.board, &mut output);
+    }
 }

@@ -35,6 +35,11 @@ impl Component {
         self
     }
 
+    /// The octets without the zeros behind them.
+    pub fn octets(&self) -> &[u8] {
+        &self.octets[..self.len]
+    }
+
     pub fn reject(identifier: &[u8], sort: u8, problem: u8) -> Component {
         Component::new(0xA4, identifier).with(&[sort, 1, problem])
     }
