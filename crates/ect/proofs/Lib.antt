@@ -2,3 +2,4 @@
 pub mod EffectLaws
 pub mod NumberLaws
 pub mod StepLaws
+pub mod CallHistory

@@ -9,11 +9,12 @@ use mathlib.Core.Path.{_≡_, _∙_, ap, refl, sym, subst}
 use mathlib.Core.List.{List, [], _∷_, _++_, append-nil, append-assoc}
 use lib.ListN.{length, getD, take, drop, length-append, length-drop, drop-of-length-le}
 use mathlib.Core.Logic.{inl}
-use lib.Seq.{drop-drop, take-at, take-all, take-length, drop-length, length-take-le, take-append-le, drop-append-le, take-append-add, take-append-seam}
+use lib.Seq.{drop-drop, take-all, take-length, drop-length, length-take-le, take-append-le, drop-append-le, take-append-add, take-append-seam}
 use Rattle.board.specs.declared.Board.{Board}
 use Rattle.rules.specs.Replies.{DropOrder, octets}
 use Rattle.rules.specs.Step.{Outcome, step}
 use Rattle.rules.proofs.Room.{room-enough}
+use Rattle.ect.proofs.CallHistory.{replies-are}
 use Rattle.ect.specs.Contract.{Shows, answerNumber, answerCount}
 use Rattle.ect.specs.declared.Stepped.{Stepped}
 use Rattle.log_text.proofs.TextLaws.{line-short}
@@ -31,10 +32,6 @@ module _ {o : Outcome} {before after : List ℕ} {r : Stepped} (s : Shows o befo
       let q = length-drop (length (octets (o .replies))) before in
       omega (arith, s .count, ap length (s .buffer))
 
-  -- and they are the replies
-  pub replies-are : take (answerCount (r .answer)) after ≡ octets (o .replies)
-  replies-are = rw (s .count, s .buffer) (take-at (octets (o .replies)) (drop (length (octets (o .replies))) before) (length (octets (o .replies))) refl)
-
   pub told : {number returned count written : ℕ} {event out out′ : List ℕ} → returned ≡ answerNumber (r .answer) → count ≡ answerCount (r .answer)
       → Placed (recordLine number (getD event 0 0) returned (take count after)) out out′ written
       → length (outcomeLine number event o) ≤ 512
@@ -44,7 +41,7 @@ module _ {o : Outcome} {before after : List ℕ} {r : Stepped} (s : Shows o befo
       record {
         board = s .board;
         returned = g;
-        line = rw (g, f, replies-are) at p;
+        line = rw (g, f, replies-are s) at p;
         short = h;
       }
 
