@@ -2,3 +2,4 @@
 pub mod PlayingLaws
 pub mod TurnLaws
 pub mod WholeLog
+pub mod Bounds

@@ -1,30 +1,25 @@
 -- What `tell` makes of a record, and what one record more makes of a piece. Assumes nothing.
 use Prim.Native.Nat.{ℕ, zero, suc, _+_, _-_, _≤_, _<_}
 use native.Mathlib.Omega.{arith}
-use native.Mathlib.Nat.{zero-add}
 use borrow.Author.Tests.{le-leb, lt-leb, le-ltb, lt-ltb, eq-eqb, ne-eqb, eqb-false}
 use lib.Dec.{eqb, leb, ltb}
 use mathlib.Core.Bool.{Bool, true, false, cond}
-use mathlib.Core.Path.{_≡_, _∙_, ap, ap₂, refl, sym, subst}
-use mathlib.Core.List.{List, [], _∷_, _++_, append-nil, append-assoc}
+use mathlib.Core.Path.{_≡_, _∙_, ap, refl, sym}
+use mathlib.Core.List.{List, [], _∷_}
 use lib.ListN.{length, getD, take, drop, length-append, length-drop}
-use lib.Seq.{drop-drop, take-at, length-take-le}
 use Rattle.board.specs.declared.Board.{Board}
 use Rattle.rules.specs.Replies.{DropOrder, octets}
-use Rattle.rules.specs.Step.{Outcome, step, stepTested}
-use Rattle.rules.proofs.Room.{room-enough}
+use Rattle.rules.specs.Step.{Outcome}
+use Rattle.ect.proofs.CallHistory.{replies-are}
 use Rattle.ect.specs.Contract.{Shows, answerNumber, answerCount}
 use Rattle.ect.specs.declared.Stepped.{Stepped}
 use Rattle.log_text.proofs.TextLaws.{line-short}
 use Rattle.log_text.specs.Lines.{recordLine}
 use Rattle.log_text.specs.Writing.{Placed}
-use Rattle.playing.specs.declared.Pause.{Pause}
 use Rattle.playing.specs.declared.Pause.the-variants.{MoreInput, FullOutput, End}
-use Rattle.playing.specs.declared.Played.{Played}
-use Rattle.playing.specs.declared.Told.{Told}
 use Rattle.playing.specs.Records.{recordLength}
-use Rattle.playing.specs.Log.{outcomeLine, orderNow, ordersLater, judged, stopsReading, largestNumber}
-use Rattle.playing.specs.Playing.{frontLength, pieceRecord, pieceLine, longestLine, pauseAtEnd, Playing, pausing, withRecord, playFrom, playing, pausedAt, PlaysAs, Plays, TellsOf}
+use Rattle.playing.specs.Log.{outcomeLine, ordersLater, judged, stopsReading, largestNumber}
+use Rattle.playing.specs.Playing.{frontLength, pieceRecord, pieceLine, longestLine, pauseAtEnd, Playing, pausing, withRecord, playFrom, playing, TellsOf}
 
 module _ {o : Outcome} {before after : List ℕ} {r : Stepped} (s : Shows o before r after) where
   -- the octets written lie in the buffer
@@ -33,10 +28,6 @@ module _ {o : Outcome} {before after : List ℕ} {r : Stepped} (s : Shows o befo
       let p = length-append (octets (o .replies)) (drop (length (octets (o .replies))) before) in
       let q = length-drop (length (octets (o .replies))) before in
       omega (arith, s .count, ap length (s .buffer))
-
-  -- and they are the replies
-  pub replies-are : take (answerCount (r .answer)) after ≡ octets (o .replies)
-  replies-are = rw (s .count, s .buffer) (take-at (octets (o .replies)) (drop (length (octets (o .replies))) before) (length (octets (o .replies))) refl)
 
   pub told : {number returned count written : ℕ} {event out out′ : List ℕ} → returned ≡ answerNumber (r .answer) → count ≡ answerCount (r .answer)
       → Placed (recordLine number (getD event 0 0) returned (take count after)) out out′ written
@@ -47,7 +38,7 @@ module _ {o : Outcome} {before after : List ℕ} {r : Stepped} (s : Shows o befo
       record {
         board = s .board;
         returned = g;
-        line = rw (g, f, replies-are) at p;
+        line = rw (g, f, replies-are s) at p;
         short = h;
       }
 

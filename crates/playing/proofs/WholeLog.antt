@@ -7,11 +7,10 @@ use mathlib.Core.Bool.{Bool, true, false, cond}
 use mathlib.Core.Path.{_≡_, _∙_, ap, refl, sym}
 use mathlib.Core.List.{List, [], _∷_, _++_, append-nil, append-assoc}
 use lib.Dec.{eqb, leb, ltb}
-use lib.ListN.{length, take, drop, getD, length-append, length-drop, drop-of-length-le}
+use lib.ListN.{length, take, drop, length-drop, drop-of-length-le}
 use lib.Seq.{drop-drop, take-all, take-length, drop-length, take-append-le, drop-append-le, take-at}
 use base.Fml.{GName}
 use contract.Lifetimes.{Lfts}
-use denote.Ref.{RefT}
 use Rattle.board.specs.declared.Board.{Board}
 use Rattle.rules.specs.Replies.{DropOrder}
 use Rattle.playing.specs.declared.Pause.{Pause}
@@ -19,7 +18,8 @@ use Rattle.playing.specs.declared.Pause.the-variants.{MoreInput, FullOut
 use Rattle.playing.specs.declared.Played.{Played}
 use Rattle.playing.specs.Records.{recordLength}
 use Rattle.playing.specs.Log.{outcomeLine, orderNow, ordersLater, judged, frontRecord, behind, stopsReading, largestNumber, LogEnd, ended, withText, logFrom, logEnd}
-use Rattle.playing.specs.Playing.{frontLength, pieceRecord, pieceLine, longestLine, pauseAtEnd, Playing, pausing, withRecord, playFrom, playing, PlaysAs}
+use Rattle.playing.specs.Playing.{frontLength, pieceRecord, pieceLine, longestLine, pauseAtEnd, Playing, pausing, withRecord, playFrom, playing}
+use Rattle.ect.proofs.CallHistory.{lent}
 use Rattle.playing.proofs.PlayingLaws.{some-taken}
 use Rattle.playing.proofs.play.Reads as play-contract
 
@@ -186,10 +186,6 @@ piece-of-log (suc k) orders b n (o ∷ os) later last room h z =
     go false false false false ex ey es f = goes-on orders b n o os later last z ex next ey es (f (some-taken last o os ex))
 
 -- ---- the calls
-
--- a reference to octets, wherever they lie
-abbrev lent : (ℕ × ℕ) × GName → List ℕ → RefT (List ℕ)
-lent at os = record { ptr = at .0; name = at .1; now = os }
 
 -- a call of `play` that met its contract
 pub record Met (b : Board) (n : ℕ) (piece : List ℕ) (last : Bool) (before after : List ℕ) (r : Played) : Type 0 where

@@ -14,7 +14,7 @@ use Rattle.playing.specs.declared.Pause.{Pause}
 use Rattle.playing.specs.declared.Pause.the-variants.{MoreInput, FullOutput, End}
 use Rattle.playing.specs.declared.Played.{Played}
 use Rattle.playing.specs.Records.{recordLength}
-use Rattle.playing.specs.Log.{outcomeLine, orderNow, ordersLater, judged, stopsReading, largestNumber}
+use Rattle.playing.specs.Log.{outcomeLine, ordersLater, judged, stopsReading, largestNumber}
 
 -- ---- a piece
 
