@@ -1,8 +1,7 @@
 -- The counts of rows (document 01, "The board": the last paragraph).
 use Prim.Native.Nat.{ℕ, _/_}
-use mathlib.Core.Bool.{Bool, true, false, cond}
+use mathlib.Core.Bool.{cond}
 use mathlib.Core.List.{List}
-use mathlib.Core.Option.{Option, none, some}
 use lib.ListN.{length}
 use Rattle.octets.specs.Lists.{keep}
 use Rattle.board.specs.declared.Row.{Row}
@@ -21,23 +20,20 @@ pairs rows = length (keep (λ (e : Entry). isJoined (e .connection)) (taken rows
 abbrev pub links : List Row → ℕ
 links rows = linkIds (taken rows)
 
+-- what the count gives: a number and the three counts
+pub record CountsAnswer : Type 0 where
+  pub returned : ℕ
+  pub legs : ℕ
+  pub pairs : ℕ
+  pub links : ℕ
+
 -- "the count first tests soundness of the rows and refuses with 2 and zeros"
-unfoldable pub counts : List Row → Counted
-counts rows = cond (soundRows rows) (Counts (legs rows) (pairs rows) (links rows)) Unsound
+unfoldable pub counts : List Row → CountsAnswer
+counts rows =
+    cond (soundRows rows) (record { returned = 0; legs = legs rows; pairs = pairs rows; links = links rows })
+    (record { returned = 2; legs = 0; pairs = 0; links = 0 })
 
--- the number and the counts that each answer stands for
-abbrev pub countedNumber : Counted → ℕ
-countedNumber (Counts l p k) = 0
-countedNumber Unsound = 2
-
-abbrev pub countedLegs : Counted → ℕ
-countedLegs (Counts l p k) = l
-countedLegs Unsound = 0
-
-abbrev pub countedPairs : Counted → ℕ
-countedPairs (Counts l p k) = p
-countedPairs Unsound = 0
-
-abbrev pub countedLinks : Counted → ℕ
-countedLinks (Counts l p k) = k
-countedLinks Unsound = 0
+-- the number and the counts that each case of the code's answer stands for
+abbrev pub countedAnswer : Counted → CountsAnswer
+countedAnswer (Counts l p k) = record { returned = 0; legs = l; pairs = p; links = k }
+countedAnswer Unsound = record { returned = 2; legs = 0; pairs = 0; links = 0 }

@@ -1,11 +1,10 @@
 -- Lookup by reference (document 01, "The board": the last paragraph).
 use Prim.Native.Nat.{ℕ}
-use mathlib.Core.Bool.{Bool, true, false}
+use mathlib.Core.Bool.{Bool, false}
 use mathlib.Core.List.{List}
 use mathlib.Core.Option.{Option, none, some}
 use lib.Dec.{eqb}
 use Rattle.octets.specs.Lists.{placeFrom}
-use Rattle.board.specs.declared.Call.{Call}
 use Rattle.board.specs.declared.Standing.{Standing}
 use Rattle.board.specs.declared.Standing.the-variants.{Empty, Served, Joined}
 use Rattle.board.specs.declared.Row.{Row}
@@ -22,6 +21,7 @@ isCallOf r (Joined p a) = false
 abbrev pub hasCallOf : ℕ → Row → Bool
 hasCallOf r row = isCallOf r (row .standing)
 
+-- a place as the code says it
 abbrev pub foundAt : Option ℕ → Found
 foundAt none = Nothing
 foundAt (some i) = At i
@@ -31,15 +31,20 @@ abbrev pub foundRow : Option Row → Row
 foundRow none = emptyRow
 foundRow (some r) = r
 
--- "the lowest place, counted from 0, with a call of that reference"
-unfoldable pub lookup : ℕ → List Row → Found
-lookup r rows = foundAt (placeFrom (hasCallOf r) 0 rows)
+-- what lookup gives: a number and a place
+pub record LookupAnswer : Type 0 where
+  pub returned : ℕ
+  pub place : ℕ
 
--- "Lookup gives 0 and the lowest place .., else 9 and place 0": the number and the place that each answer stands for
-abbrev pub foundNumber : Found → ℕ
-foundNumber (At i) = 0
-foundNumber Nothing = 9
+-- "Lookup gives 0 and the lowest place, counted from 0, with a call of that reference, else 9 and place 0"
+abbrev pub lowestPlace : Option ℕ → LookupAnswer
+lowestPlace none = record { returned = 9; place = 0 }
+lowestPlace (some i) = record { returned = 0; place = i }
 
-abbrev pub foundPlace : Found → ℕ
-foundPlace (At i) = i
-foundPlace Nothing = 0
+unfoldable pub lookup : ℕ → List Row → LookupAnswer
+lookup r rows = lowestPlace (placeFrom (hasCallOf r) 0 rows)
+
+-- the number and the place that each case of the code's answer stands for
+abbrev pub foundAnswer : Found → LookupAnswer
+foundAnswer (At i) = record { returned = 0; place = i }
+foundAnswer Nothing = record { returned = 9; place = 0 }

@@ -2,7 +2,7 @@
 ghost use mathlib.Core.Path.{_≡_};
 ghost use Rattle.octets.specs.Lists.{placeFrom, find as findIn};
 ghost use Rattle.board.specs.Entries.{occupied, linkIdIn, isLinkId};
-ghost use Rattle.board.specs.Lookup.{isCallOf, foundAt, foundRow, lookup as lookupRows};
+ghost use Rattle.board.specs.Lookup.{isCallOf, foundAt, foundRow, foundAnswer, lookup as lookupRows};
 ghost use Rattle.board.specs.Keys.{linkOf, matchesKey, surveyOf};
 ghost use Rattle.board.specs.LinkIds.{liveLinkIds, freeLinkId, optionalLinkId};
 use crate::Board;
@@ -131,7 +131,7 @@ pub fn look_over(board: Board, leg: u32, reference: CallReference) -> Survey
 
 // The lowest place, counted from 0, with a call of that reference.
 pub fn lookup(board: Board, reference: CallReference) -> Found
-    ensures { λ r. ⌜ r ≡ lookupRows (reference .0) (board .rows) ⌝ }
+    ensures { λ r. ⌜ foundAnswer r ≡ lookupRows (reference .0) (board .rows) ⌝ }
 {
     find(board, Key::Reference(reference))
 }

@@ -23,6 +23,7 @@ use Rattle.rules.proofs.WholeHistory.{whole-history, any-order}
 use Rattle.ect.specs.CallHistory.{StepCall, CallHistory, lastBoard, numberOf, written, eventOf, events}
 use Rattle.ect.specs.Contract.{Shows, answerCount}
 use Rattle.ect.specs.declared.Stepped.{Stepped}
+use Rattle.board.proofs.Promises.{fresh-promise}
 use Rattle.board.proofs.fresh.Reads as fresh-contract
 use Rattle.ect.proofs.step.Reads as step-contract
 
@@ -117,10 +118,10 @@ calls-history s a made f calls h =
     }
   where
     board-at : lastBoard (made .board) calls ≡ boardAt (fresh s a .board) (events calls)
-    board-at = last-board (made .board) calls h ∙ ap (λ (m : Made). boardAt (m .board) (events calls)) f
+    board-at = last-board (made .board) calls h ∙ ap (λ (m : Made). boardAt (m .board) (events calls)) (fresh-promise s a made f)
 
     numbers-are : map numberOf calls ≡ returns (fresh s a .board) (events calls)
-    numbers-are = returned-numbers (made .board) calls h ∙ ap (λ (m : Made). returns (m .board) (events calls)) f
+    numbers-are = returned-numbers (made .board) calls h ∙ ap (λ (m : Made). returns (m .board) (events calls)) (fresh-promise s a made f)
 
     at : (pre post : List StepCall) (c : StepCall) → calls ≡ pre ++ (c ∷ post) → Met (lastBoard (made .board) pre) c
     at pre post c p = met-at (made .board) pre post c (subst (Chain (made .board)) p h)

@@ -1,4 +1,4 @@
--- A function that answers with a definition's value at its arguments: its contract, how a walk of its code comes to the contract, and a call of it.
+-- A function by what it promises of its answer: its contract, how a walk of its code comes to the contract, and a call of it.
 use mathlib.Core.Path.{_≡_, refl, sym, subst, ap}
 use Prim.Native.Nat.{ℕ}
 use mathlib.Core.Bool.{Bool, true, false}
@@ -99,13 +99,13 @@ abbrev Fine : (lent : Bool) (Ks : List Carried) (κs : Lfts (life lent)) → Pas
 Fine false Ks κs a = AreValues 0 κs Ks a
 Fine true Ks κs a = AreValues 1 κs Ks (a .1)
 
--- whether rows are lent to it, the types by value that it takes and gives, what it requires, and the value that it answers
+-- whether rows are lent to it, the types by value that it takes and gives, what it requires, and what it promises of its answer
 pub record Def : Type 2 where
   pub lent : Bool
   pub takes : List Carried
   pub gives : Carried
   pub asks : (κs : Lfts (life lent)) → Passed lent takes κs → Option (Type 0)
-  pub value : (κs : Lfts (life lent)) → Passed lent takes κs → gives .row .Denot
+  pub promise : (κs : Lfts (life lent)) → Passed lent takes κs → gives .row .Denot → Type 0
 
 -- what the lent rows own
 abbrev pub Own : Lft → RefT (List Row) → Fml
@@ -170,7 +170,7 @@ module _ (D : Def) where
 
   module _ {M : Type 1} (𝓤 : URA M) (H : Heap 𝓤) (A : Atoms 𝓤) where
     abbrev clauses : Clauses 𝓤 ended
-    clauses κs a = record { ghost = Unit {0}; requires = λ _. needs 𝓤 H A (D .asks κs a); ensures = λ _ r _. fact 𝓤 (r ≡ D .value κs a) }
+    clauses κs a = record { ghost = Unit {0}; requires = λ _. needs 𝓤 H A (D .asks κs a); ensures = λ _ r _. fact 𝓤 (D .promise κs a r) }
 
     abbrev pub Answers : Contract 𝓤
     Answers = tripleOf 𝓤 H A (ended .signature) (closing 𝓤 H A ended clauses)
@@ -182,11 +182,11 @@ module _ (D : Def) where
       abbrev pub Back : Val → SProp 𝓤
       Back = walkOf 𝓤 H A ended (stays Ps) clauses .post to
 
-      answered : (r : R .row .Denot) → ent 𝓤 (ensured 𝓤 H A ended clauses κs a tt r) (fact 𝓤 (r ≡ D .value κs a))
-      answered r = exE 𝓤 _ (λ ws. snd∗ 𝓤 (sem 𝓤 H A (lasts ended κs a ws)) (fact 𝓤 (r ≡ D .value κs a)))
+      answered : (r : R .row .Denot) → ent 𝓤 (ensured 𝓤 H A ended clauses κs a tt r) (fact 𝓤 (D .promise κs a r))
+      answered r = exE 𝓤 _ (λ ws. snd∗ 𝓤 (sem 𝓤 H A (lasts ended κs a ws)) (fact 𝓤 (D .promise κs a r)))
 
       -- the function returns its answer, and the tokens
-      pub leaves : Given 𝓤 H A → (r : R .row .Denot) → r ≡ D .value κs a → Is (R .row) r (R .val r ∷ []) → ent 𝓤 (alive 𝓤 H A (ended .signature) κs qs) (Back (R .val r))
+      pub leaves : Given 𝓤 H A → (r : R .row .Denot) → D .promise κs a r → Is (R .row) r (R .val r ∷ []) → ent 𝓤 (alive 𝓤 H A (ended .signature) κs qs) (Back (R .val r))
       leaves W r e is =
           qed W (raw (alive 𝓤 H A (ended .signature) κs qs) ∷ []) ∵ suffices ! _ (ends-at 𝓤 H A ended (stays Ps) clauses W to (R .val r) r (ends κs Ps a) (fit κs Ps a (ends κs Ps a))) $ says ! e $ frame ! $
           use0 W (‵ (hasOf κs (slots Ps) (all yes (slots Ps)) (stays Ps) a (ends κs Ps a) (vals κs a))) (had 𝓤 H A κs Ps a (ends κs Ps a) (vals κs a)) $ frame ! $
@@ -197,13 +197,13 @@ module _ (D : Def) where
           → Fine (D .lent) (D .takes) κs a → Shown (D .asks κs a) → ent 𝓤 (mean 𝓤 H A i) (brought 𝓤 H A (D .lent) (D .takes) κs qs a) → Opds (Go {0}) W (raw (Answers .pre to) ∷ Γ) E xs (flat (kinds Ps κs) (vals κs a)) → {l o : ℕ} {Γ′ : Val → List (Item 𝓤)}
           → Finds (Go {0}) W (raw (alive 𝓤 H A (ended .signature) κs qs) ∷ Γ) E d (R .ty, l, o)
           → ((v : Val) → Holds (hasTy (R .ty) v) × WT v → Writes (Go {0}) W (raw (alive 𝓤 H A (ended .signature) κs qs) ∷ Γ) (R .ty) l o v (Γ′ v))
-          → ((r : R .row .Denot) → r ≡ D .value κs a → Is (R .row) r (R .val r ∷ []) → Sq W (Γ′ (R .val r)) (runs C Λ E rest q))
+          → ((r : R .row .Denot) → D .promise κs a r → Is (R .row) r (R .val r ∷ []) → Sq W (Γ′ (R .val r)) (runs C Λ E rest q))
           → Sq W (i ∷ Γ) (runs C Λ E (seq (call g xs d) rest) q)
       calls {W} {i} {Γ} {E} {C} {Λ} {q} t fm {g} {xs} {d} {rest} known good shown h reads finds writes k =
           use1 W (raw (Answers .pre to)) (via 𝓤 _ h (via 𝓤 _ (enters 𝓤 H A W (D .lent) (D .takes) κs qs a good) (beside 𝓤 H A (onEntry 𝓤 H A (ended .signature) κs qs a (vals κs a)) _ (needed 𝓤 H A (D .asks κs a) shown)))) $
           calls-at ! fm Answers known to reads (λ u.
           use1 W (later (some′ (λ (r : R .row .Denot). (raw (alive 𝓤 H A (ended .signature) κs qs) ⊛ ‵ (R .row .own r (u ∷ []))) ⊛ raw (ensured 𝓤 H A ended clauses κs a tt r)))) (id⊢ 𝓤 _) $ await ! tt $ pick ! (λ r.
-          split ! $ move ! (1 ∷ []) $ use1 W (raw (fact 𝓤 (r ≡ D .value κs a))) (answered r) $ heard ! (r ≡ D .value κs a) (λ e. split ! $ move ! (1 ∷ []) $
+          split ! $ move ! (1 ∷ []) $ use1 W (raw (fact 𝓤 (D .promise κs a r))) (answered r) $ heard ! (D .promise κs a r) (λ e. split ! $ move ! (1 ∷ []) $
           peeks ! (R .row) (Is (R .row)) (shows 𝓤 H A (R .row)) r (u ∷ []) (λ is. drop ! $
           regoal ! (λ (v : Val). lands C Λ E d v rest q) (ap only (R .tells r (u ∷ []) is)) refl $
           land ! finds (writes (R .val r) (R .typed 𝓤 H A W r _ (respelt R r u is))) $ k r e (respelt R r u is)))))

@@ -1,5 +1,5 @@
 -- A function that walks through lent rows and keeps a state, for any state, key and callee: its code, and its proof from the callee's contract. In each turn the callee makes the next state of the state, the row, the key and the place.
-use mathlib.Core.Path.{_≡_, refl, sym, ap, _∙_}
+use mathlib.Core.Path.{_≡_, refl, ap, subst}
 use Prim.Native.Nat.{ℕ, suc}
 use native.Mathlib.Nat.{lt-trans}
 use native.Mathlib.Numerals.{add-one}
@@ -34,12 +34,12 @@ use Rattle.rows.proofs.Calls.{Def, Args, Good, Answers, Back, calls, le
 use Rattle.rows.proofs.Walks.{word, slice, var, through-rows, Loop, At, Stepping, Ending, walked-rows}
 
 module _ (S K : Carried) where
-  -- the state before any row, the callee, and what it comes to with all rows
+  -- the state before any row, the callee, and what is promised of the state with all rows
   pub record Fold : Type 1 where
     pub begun : S .row .Denot
     pub begun-is : Is (S .row) begun (S .val begun ∷ [])
     pub step : S .row .Denot → Row → K .row .Denot → ℕ → S .row .Denot
-    pub value : K .row .Denot → List Row → S .row .Denot
+    pub promise : K .row .Denot → List Row → S .row .Denot → Type 0
 
   -- the state once these rows are read too, the first at place i
   abbrev pub folded : Fold → K .row .Denot → S .row .Denot → ℕ → List Row → S .row .Denot
@@ -49,10 +49,10 @@ module _ (S K : Carried) where
   module _ (F : Fold) where
     -- the callee
     abbrev pub Next : Def
-    Next = record { lent = false; takes = S ∷ ARow ∷ K ∷ Usize ∷ []; gives = S; asks = λ _ _. none; value = λ _ a. F .step (a .0) (a .1 .0) (a .1 .1 .0) (a .1 .1 .1 .0) }
+    Next = record { lent = false; takes = S ∷ ARow ∷ K ∷ Usize ∷ []; gives = S; asks = λ _ _. none; promise = λ _ a r. r ≡ F .step (a .0) (a .1 .0) (a .1 .1 .0) (a .1 .1 .1 .0) }
 
     abbrev pub Whole : Def
-    Whole = record { lent = true; takes = K ∷ []; gives = S; asks = λ _ _. none; value = λ _ a. F .value (a .1 .0) (a .0 .now) }
+    Whole = record { lent = true; takes = K ∷ []; gives = S; asks = λ _ _. none; promise = λ _ a r. F .promise (a .1 .0) (a .0 .now) r }
 
     -- ---- the code
     module _ (g : Name) (start : RValue) where
@@ -72,7 +72,7 @@ module _ (S K : Carried) where
       }
 
       -- ---- the walk
-      module _ {M : Type 1} (𝓤 : URA M) (H : Heap 𝓤) (A : Atoms 𝓤) (W : Given 𝓤 H A) (𝓣 : Tables 𝓤 H) (known : Triple 𝓤 (𝓣 .C g) (Answers Next 𝓤 H A)) (total : (k : K .row .Denot) (ys : List Row) → folded F k (F .begun) 0 ys ≡ F .value k ys) where
+      module _ {M : Type 1} (𝓤 : URA M) (H : Heap 𝓤) (A : Atoms 𝓤) (W : Given 𝓤 H A) (𝓣 : Tables 𝓤 H) (known : Triple 𝓤 (𝓣 .C g) (Answers Next 𝓤 H A)) (total : (k : K .row .Denot) (ys : List Row) → F .promise k ys (folded F k (F .begun) 0 ys)) where
         module _ (κs : Lft × Unit {0}) (qs : Share × Unit {0}) (a : Args Whole κs) (good : Good Whole κs a) (l₀ l₁ l₂ l₃ l₄ l₅ l₆ l₇ l₈ l₉ : ℕ) where
           abbrev ys : List Row
           ys = a .0 .now
@@ -87,7 +87,7 @@ module _ (S K : Carried) where
             rows = a .0;
             gn = good .0 .0 .1;
             X = S .row .Denot;
-            Known = λ i s. (folded F k s i (drops i ys) ≡ F .value k ys) × Is (S .row) s (S .val s ∷ []);
+            Known = λ i s. F .promise k ys (folded F k s i (drops i ys)) × Is (S .row) s (S .val s ∷ []);
             E = (S .ty, l₀) ∷ (slice, l₁) ∷ (K .ty, l₂) ∷ (S .ty, l₃) ∷ (word, l₄) ∷ (T′.mir, l₅) ∷ (word, l₆) ∷ (tyBool, l₇) ∷ (tyPtr, l₈) ∷ (T′.mir, l₉) ∷ [];
             p = 4;
             w = 6;
@@ -104,7 +104,7 @@ module _ (S K : Carried) where
           stepping i s h below is-row rest Q next =
               nothing ! $ calls Next 𝓤 H A tt tt (s, (getD ys i emptyRow, (k, (i, tt)))) ! (fmOf 𝓤 H (W .laws) 𝓣) known (h .1, (is-row, (good .1 .0, ((refl, lt-trans below (good .0 .0 .1 .0)), tt)))) tt (id⊢ 𝓤 (emp 𝓤))
               (and-then ! (load ! (from ! (stop !)) (look ! 10 refl)) (and-then ! (load ! (from ! (stop !)) (look ! 5 refl)) (and-then ! (load ! (from ! (stop !)) (look ! 11 refl)) (and-then ! (load ! (from ! (stop !)) (look ! 6 refl)) (no-more !)))))
-              (from ! (stop !)) (λ v ok. store ! 10 refl ok) (λ r e is. drop ! $ next r (rw (e, add-one) (sym (ap (folded F k s i) (drop-cons ys i emptyRow below)) ∙ h .0), is))
+              (from ! (stop !)) (λ v ok. store ! 10 refl ok) (λ r e is. drop ! $ next r (rw (e, add-one) (subst (F .promise k ys) (ap (folded F k s i) (drop-cons ys i emptyRow below)) (h .0)), is))
 
           ending : Ending 𝓤 H A W 𝓣 L
           ending i s h past =
@@ -112,7 +112,7 @@ module _ (S K : Carried) where
               returns ! (look ! 11 refl) $ forget ! 5 refl $ forget ! 6 refl $ forget ! 9 refl $ forget ! 10 refl $ forget ! 11 refl $
               keep ! (11 ∷ 12 ∷ 6 ∷ 13 ∷ 10 ∷ 14 ∷ 9 ∷ 15 ∷ 5 ∷ 16 ∷ 4 ∷ 17 ∷ 3 ∷ 18 ∷ 2 ∷ 19 ∷ 1 ∷ 20 ∷ 0 ∷ 21 ∷ 7 ∷ []) $
               free1 ! $ free1 ! $ free1 ! $ free1 ! $ free1 ! $ free1 ! $ free1 ! $ free1 ! $ free1 ! $ free1 ! $ free0 ! $
-              nothing ! $ move ! (1 ∷ 0 ∷ []) $ join ! $ by ! (leaves Whole 𝓤 H A κs qs a W s (sym (ap (folded F k s i) (drop-of-length-le ys past)) ∙ h .0) (h .1))
+              nothing ! $ move ! (1 ∷ 0 ∷ []) $ join ! $ by ! (leaves Whole 𝓤 H A κs qs a W s (subst (F .promise k ys) (ap (folded F k s i) (drop-of-length-le ys past)) (h .0)) (h .1))
 
           looped : Sq W (At 𝓤 H A W 𝓣 L 0 (F .begun)) (runs (𝓣 .C) (𝓣 .Λ) (L .E) (through-rows 4 6 mid end) (atRet (L .E) (L .After)))
           looped = walked-rows 𝓤 H A W 𝓣 L stepping ending (F .begun) (total k ys, F .begun-is)

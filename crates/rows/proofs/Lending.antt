@@ -88,9 +88,9 @@ module _ {M : Type 1} (𝓤 : URA M) (H : Heap 𝓤) (A : Atoms 𝓤) (W : Given
       use1 W (‵ (fat fullShare rows l 0 (ARows .val ys))) (W .laws .raw-at fullShare rows l 0 (ARows .val ys)) $ use1 W (‵ (froom rows l 0)) (W .laws .at-room rows l 0 (ARows .val ys)) $ keep ! (0 ∷ []) $ done !))
 
   -- a call with the array lent to it, for a lifetime that is made for the call and ends with it: of the array its room is left
-  module _ (Ks : List Carried) (R : Carried) (value : (κs : Lfts 1) → Passed true Ks κs → R .row .Denot) (a : (κs : Lfts 1) → Denots (kinds (values 1 Ks) κs)) (good : (κs : Lfts 1) → AreValues 1 κs Ks (a κs)) (l : ℕ) where
+  module _ (Ks : List Carried) (R : Carried) (promise : (κs : Lfts 1) → Passed true Ks κs → R .row .Denot → Type 0) (a : (κs : Lfts 1) → Denots (kinds (values 1 Ks) κs)) (good : (κs : Lfts 1) → AreValues 1 κs Ks (a κs)) (l : ℕ) where
     abbrev D : Def
-    D = record { lent = true; takes = Ks; gives = R; asks = λ _ _. none; value = value }
+    D = record { lent = true; takes = Ks; gives = R; asks = λ _ _. none; promise = promise }
 
     abbrev lent : GName → RefT (List Row)
     lent γ = record { ptr = (l, 0); name = γ; now = ys }
@@ -98,7 +98,7 @@ module _ {M : Type 1} (𝓤 : URA M) (H : Heap 𝓤) (A : Atoms 𝓤) (W : Given
     pub calls-lending : {Γ : List (Item 𝓤)} {E : Env 𝓤 H} {C : Calls 𝓤 H} {Λ : Loops 𝓤 H} {q : Post 𝓤 H} → Go {0} → FmC 𝓤 H (W .laws) C → {g : Name} {xs : List Operand} {d : Place} {rest : Body} → Triple 𝓤 (C g) (Answers D 𝓤 H A)
         → ((i j : Item 𝓤) (κ : Lft) (γ : GName) → Opds (Go {0}) W (i ∷ j ∷ Γ) E xs (Answers D 𝓤 H A .args (to D 𝓤 H A (κ, tt) (fullShare, tt) (lent γ, a (κ, tt)))))
         → {l′ o : ℕ} {Δ : Val → List (Item 𝓤)} → ((i j : Item 𝓤) → Finds (Go {0}) W (i ∷ j ∷ Γ) E d (R .ty, l′, o)) → ((i j : Item 𝓤) (v : Val) → Holds (hasTy (R .ty) v) × WT v → Writes (Go {0}) W (i ∷ j ∷ Γ) (R .ty) l′ o v (i ∷ j ∷ Δ v))
-        → ((κ : Lft) (γ : GName) (r : R .row .Denot) → r ≡ value (κ, tt) (lent γ, a (κ, tt)) → Is (R .row) r (R .val r ∷ []) → Sq W (‵ (froom rows l 0) ∷ Δ (R .val r)) (runs C Λ E rest q))
+        → ((κ : Lft) (γ : GName) (r : R .row .Denot) → promise (κ, tt) (lent γ, a (κ, tt)) r → Is (R .row) r (R .val r ∷ []) → Sq W (‵ (froom rows l 0) ∷ Δ (R .val r)) (runs C Λ E rest q))
         → Sq W (‵ (fat fullShare rows l 0 (ARows .val ys)) ∷ Γ) (runs C Λ E (seq (call g xs d) rest) q)
     calls-lending t fm known reads finds writes k =
         use1 W (‵ (Parts l)) (goes-in l) $ lft-new ! tt (λ α. move ! (1 ∷ []) $

@@ -1,20 +1,20 @@
 -- The counts of rows by a walk that tests each row and adds up.
 use Prim.Native.Nat.{ℕ, _+_, _≤_, _<_}
 use mathlib.Core.Path.{_≡_, refl, sym, ap, subst⁻¹, _∙_}
-use mathlib.Core.Bool.{Bool, true, false, _&&_, not, cond, and-true}
+use mathlib.Core.Bool.{Bool, true, false, _&&_, not, and-true}
 use mathlib.Core.List.{List}
 use lib.Dec.{leb}
 use lib.ListN.{length, getD, drop}
 use Rattle.octets.specs.Lists.{any, all, distinct}
 use Rattle.octets.proofs.Loops.{Step, Counting, step-at, past-end, count-start, count-step, count-end}
 use Rattle.board.specs.declared.Row.{Row}
-use Rattle.board.specs.declared.Counted.the-variants.{Counts, Unsound}
 use Rattle.board.specs.declared.Tally.{Tally}
 use Rattle.board.specs.Soundness.{soundRows}
-use Rattle.board.specs.Counts.{counts, legs, pairs, links}
+use Rattle.board.specs.Counts.{counts, countedAnswer, legs, links}
 use Rattle.board.specs.Tallies.{tallyOf}
 use Rattle.board.specs.Making.{emptyRow}
 use Rattle.board.specs.RowTests.{fits, clash, paired, takenRow, joinedRow, linkedRow}
+use Rattle.board.proofs.Answers.{counts-answer}
 use Rattle.board.proofs.Rows.{sound-by-rows, tally-all}
 use Rattle.rows.specs.declared.Placed.{Placed}
 use Rattle.rows.specs.declared.Met.{Met}
@@ -75,9 +75,9 @@ module _ (ys : List Row) where
       at : Step ys i x
       at = step-at ys i emptyRow l
 
-  pub summing-end : (i : ℕ) (s : Sums) → length ys ≤ i → Summing ys i s → counted s ≡ counts ys
-  unfolding counts tallyOf
-  summing-end i s l t = ap counted sums-are ∙ ap (λ (b : Bool). cond b (Counts (legs ys) (pairs ys) (links ys)) Unsound) (sym sound-is)
+  pub summing-end : (i : ℕ) (s : Sums) → length ys ≤ i → Summing ys i s → countedAnswer (counted s) ≡ counts ys
+  unfolding tallyOf
+  summing-end i s l t = ap (λ (t : Sums). countedAnswer (counted t)) sums-are ∙ counts-answer ys (leb (links ys) 16 && obeying ys ys) sound-is
     where
       rules-are : s .sound ≡ obeying ys ys
       rules-are = sym (and-true (s .sound)) ∙ ap (λ (l : List Row). s .sound && obeying ys l) (sym (past-end ys i l .rest)) ∙ t .rules

@@ -1,11 +1,12 @@
--- The types by value that the walks through rows carry, and two of the functions by what they answer.
+-- The types by value that the walks through rows carry, and two of the functions by what they promise.
+use mathlib.Core.Path.{_≡_}
 use mathlib.Core.Bool.{true}
 use mathlib.Core.Option.{none}
 use mathlib.Core.List.{[], _∷_}
 use Rattle.octets.proofs.CallReference as K
 use Rattle.octets.proofs.CallReference.Laws as K′
-use Rattle.board.specs.Lookup.{lookup}
-use Rattle.board.specs.Counts.{counts}
+use Rattle.board.specs.Lookup.{foundAnswer, lookup}
+use Rattle.board.specs.Counts.{countedAnswer, counts}
 use Rattle.board.proofs.Row as T
 use Rattle.board.proofs.Row.Laws as T′
 use Rattle.board.proofs.Found as F
@@ -44,7 +45,7 @@ ASums = of-struct S.the-type S′.the-laws S′.the-plain S′.the-copy
 
 -- ---- the functions that a caller lends an array
 abbrev pub Lookup : Def
-Lookup = record { lent = true; takes = AReference ∷ []; gives = AFound; asks = λ _ _. none; value = λ _ a. lookup (a .1 .0 .0) (a .0 .now) }
+Lookup = record { lent = true; takes = AReference ∷ []; gives = AFound; asks = λ _ _. none; promise = λ _ a r. foundAnswer r ≡ lookup (a .1 .0 .0) (a .0 .now) }
 
 abbrev pub Count : Def
-Count = record { lent = true; takes = []; gives = ACounted; asks = λ _ _. none; value = λ _ a. counts (a .0 .now) }
+Count = record { lent = true; takes = []; gives = ACounted; asks = λ _ _. none; promise = λ _ a r. countedAnswer r ≡ counts (a .0 .now) }

@@ -2,8 +2,8 @@
 // decided of it is decided in functions over rows by value.
 ghost use mathlib.Core.Path.{_≡_};
 ghost use Prim.Native.Nat.{_+_, _≤_, _<_, _^_};
-ghost use Rattle.board.specs.Lookup.{lookup as lookupRows};
-ghost use Rattle.board.specs.Counts.{counts};
+ghost use Rattle.board.specs.Lookup.{foundAnswer, lookup as lookupRows};
+ghost use Rattle.board.specs.Counts.{countedAnswer, counts};
 ghost use Rattle.rows.specs.Steps.{seen, meeting, among, added, counted};
 use board::Counted;
 use board::Found;
@@ -34,7 +34,7 @@ fn see(found: Found, row: Row, reference: CallReference, place: usize) -> Found
 
 // The lowest place, counted from 0, with a call of that reference.
 pub fn lookup(rows: &[Row], reference: CallReference) -> Found
-    ensures { λ r. ⌜ r ≡ lookupRows (reference .0) (now (rows .entry)) ⌝ }
+    ensures { λ r. ⌜ foundAnswer r ≡ lookupRows (reference .0) (now (rows .entry)) ⌝ }
 {
     let mut found = Found::Nothing;
     let mut place = 0usize;
@@ -48,7 +48,7 @@ pub fn lookup(rows: &[Row], reference: CallReference) -> Found
 
 // The same of 64 rows by value.
 pub fn lookup_in(rows: [Row; 64], reference: CallReference) -> Found
-    ensures { λ r. ⌜ r ≡ lookupRows (reference .0) rows ⌝ }
+    ensures { λ r. ⌜ foundAnswer r ≡ lookupRows (reference .0) rows ⌝ }
 {
     lookup(&rows, reference)
 }
@@ -144,7 +144,7 @@ fn answer(sums: Sums) -> Counted
 
 // The counts of the rows, once they are found sound.
 pub fn count(rows: &[Row]) -> Counted
-    ensures { λ r. ⌜ r ≡ counts (now (rows .entry)) ⌝ }
+    ensures { λ r. ⌜ countedAnswer r ≡ counts (now (rows .entry)) ⌝ }
 {
     let mut sums = Sums {
         sound: true,
@@ -165,7 +165,7 @@ pub fn count(rows: &[Row]) -> Counted
 
 // The same of 64 rows by value.
 pub fn count_in(rows: [Row; 64]) -> Counted
-    ensures { λ r. ⌜ r ≡ counts rows ⌝ }
+    ensures { λ r. ⌜ countedAnswer r ≡ counts rows ⌝ }
 {
     count(&rows)
 }

@@ -1,70 +1,50 @@
--- WithUser fewer than 16 LinkIds live, one of the 16 values from the candidate upward is free: the search for a LinkId never comes back with nothing.
+-- With fewer than 16 LinkIds live, one of the 16 values from the candidate upward is free, so a request for one is given it.
 use Prim.Native.Nat.{_+_, _-_, _<_, _≤_, suc, ℕ, zero, zero-le, suc-le-suc}
 use native.Mathlib.Nat.{le-refl, le-step, le-trans}
 use native.Mathlib.Omega.{arith}
-use mathlib.Core.Path.{_∙_, refl, ap, _≡_, sym, subst, subst⁻¹}
+use borrow.Author.Tests.{lt-leb}
+use mathlib.Core.Path.{_∙_, refl, ap, _≡_, sym, subst⁻¹}
 use mathlib.Core.Logic.{_⊎_, inr, inl}
 use mathlib.Core.Bool.{_&&_, _||_, false, true, not, Bool, cond}
 use mathlib.Core.List.{_∷_, List, []}
 use mathlib.Core.Option.{none, some, Option}
-use lib.Dec.{eqb, ltb}
+use lib.Dec.{eqb}
 use lib.ListN.{length}
 use lib.IntN.{ℤ, pos, negsuc}
-use Rattle.board.specs.Changes.{full}
-use Rattle.board.specs.declared.Entry.{Entry}
-use Rattle.board.specs.declared.Party.{Party}
 use Rattle.board.specs.Entries.{taken, linkIds, calls}
 use Rattle.board.specs.LinkIds.{freeLinkId, unlessLive}
-use Rattle.board.specs.Making.{options, fresh, emptyBoard, unmade}
-use Rattle.board.specs.Soundness.{sound, validOptions}
 use Rattle.board.specs.declared.Board.{Board}
-use Rattle.board.specs.declared.Made.{Made}
-use Rattle.board.specs.declared.Options.{Options}
-use Rattle.rules.proofs.Decided.{ComesTo, silent, respond, assigned, transferred, Decided, refuses, opens-leg, sets-state, sets-auxiliary, releases, serves, ends-alerting, decided}
-use Rattle.rules.proofs.Kept.{live-length}
-use Rattle.rules.specs.Checks.{Decision, refusalNumber}
-use Rattle.events.specs.EventRecords.{Request, request}
-use Rattle.rules.specs.History.{Event, stepped, boardAt}
-use Rattle.rules.specs.Replies.{octets}
-use Rattle.rules.specs.Serving.{live, Service}
-use Rattle.rules.specs.Situations.{after}
-use Rattle.rules.specs.Step.{step, stepTested, serviceCandidate, decision, candidateAfter, boardAfter, Outcome, refused, done}
-use Rattle.events.specs.declared.Refusal.the-variants.{BufferTooSmall, UnsoundBoard}
+use Rattle.rules.proofs.Kept.{live-length, first-not-live}
+use Rattle.rules.specs.LinkIdGiven.{InLinkIdRange, LinkIdGiven}
+use Rattle.rules.specs.Serving.{live, error, assign}
 use Rattle.octets.proofs.Lists.{true-not-false, eqb-of, eqb-eq, test, neither, both, any-has, any-of, mem-keep, or-false, left, right, is-not}
 use Rattle.octets.proofs.SameLinkId.{sameLinkId-eq}
 use Rattle.octets.specs.Lists.{all, any, distinct, keep, consIf}
 use Rattle.octets.specs.Numbers.{nextLinkId, sameLinkId}
-use Rattle.octets.specs.declared.LinkId.{LinkId}
-use Rattle.events.specs.declared.Refusal.the-variants as refusal
 
 -- ---- places of the LinkIds from 0 to 65535
-
--- from -32768 to 32767
-abbrev pub Small : ℤ → Type 0
-Small (pos n) = n ≤ 32767
-Small (negsuc n) = n ≤ 32767
 
 abbrev rank : ℤ → ℕ
 rank (pos n) = n + 32768
 rank (negsuc n) = 32767 - n
 
-rank-small : (z : ℤ) → Small z → rank z ≤ 65535
-rank-small (pos n) h = omega arith
-rank-small (negsuc n) h = omega arith
+rank-in-range : (z : ℤ) → InLinkIdRange z → rank z ≤ 65535
+rank-in-range (pos n) h = omega arith
+rank-in-range (negsuc n) h = omega arith
 
 below : (n : ℕ) → n ≤ 32767 → eqb n 32767 ≡ false → suc n ≤ 32767
 below n h e = let k : n ≡ 32767 → ⊥ = λ q. true-not-false (eqb-of n 32767 q) e in omega arith
 
-next-small : (z : ℤ) → Small z → Small (nextLinkId z)
-next-small (pos n) h = go (eqb n 32767) refl
+next-in-range : (z : ℤ) → InLinkIdRange z → InLinkIdRange (nextLinkId z)
+next-in-range (pos n) h = go (eqb n 32767) refl
   where
-    go : (b : Bool) → eqb n 32767 ≡ b → Small (cond b (negsuc 32767) (pos (suc n)))
+    go : (b : Bool) → eqb n 32767 ≡ b → InLinkIdRange (cond b (negsuc 32767) (pos (suc n)))
     go true e = le-refl 32767
     go false e = below n h e
-next-small (negsuc zero) h = zero-le
-next-small (negsuc (suc n)) h = omega arith
+next-in-range (negsuc zero) h = zero-le
+next-in-range (negsuc (suc n)) h = omega arith
 
-next-rank : (z : ℤ) → Small z → (rank (nextLinkId z) ≡ rank z + 1) ⊎ ((rank (nextLinkId z) ≡ 0) × (rank z ≡ 65535))
+next-rank : (z : ℤ) → InLinkIdRange z → (rank (nextLinkId z) ≡ rank z + 1) ⊎ ((rank (nextLinkId z) ≡ 0) × (rank z ≡ 65535))
 next-rank (pos n) h = go (eqb n 32767) refl
   where
     go : (b : Bool) → eqb n 32767 ≡ b → (rank (cond b (negsuc 32767) (pos (suc n))) ≡ n + 32768 + 1) ⊎ ((rank (cond b (negsuc 32767) (pos (suc n))) ≡ 0) × (n + 32768 ≡ 65535))
@@ -77,11 +57,11 @@ next-rank (negsuc (suc n)) h = inl (omega arith)
 abbrev Later : ℕ → ℤ → ℤ → Type 0
 Later i z y = (rank y ≡ rank z + i) ⊎ (rank y + 65536 ≡ rank z + i)
 
-later-next : (i : ℕ) (z y : ℤ) → i ≤ 15 → Small z → Small y → Later i z y → Later (i + 1) z (nextLinkId y)
+later-next : (i : ℕ) (z y : ℤ) → i ≤ 15 → InLinkIdRange z → InLinkIdRange y → Later i z y → Later (i + 1) z (nextLinkId y)
 later-next i z y k hz hy l = go l (next-rank y hy)
   where
     top : rank z ≤ 65535
-    top = rank-small z hz
+    top = rank-in-range z hz
 
     go : (rank y ≡ rank z + i) ⊎ (rank y + 65536 ≡ rank z + i) → (rank (nextLinkId y) ≡ rank y + 1) ⊎ ((rank (nextLinkId y) ≡ 0) × (rank y ≡ 65535)) → Later (i + 1) z (nextLinkId y)
     go (inl a) (inl b) = inl (omega arith)
@@ -111,17 +91,17 @@ unfolding run
 run-length zero z = refl
 run-length (suc n) z = ap suc (run-length n (nextLinkId z))
 
-run-apart : (m i : ℕ) (z y : ℤ) → 1 ≤ i → i + m ≤ 16 → Small z → Small y → Later i z y → any (sameLinkId z) (run m y) ≡ false
+run-apart : (m i : ℕ) (z y : ℤ) → 1 ≤ i → i + m ≤ 16 → InLinkIdRange z → InLinkIdRange y → Later i z y → any (sameLinkId z) (run m y) ≡ false
 unfolding run
 run-apart zero i z y h k hz hy l = refl
 run-apart (suc m) i z y h k hz hy l =
     neither (apart i z y h (omega arith) l)
-    (run-apart m (i + 1) z (nextLinkId y) (omega arith) (omega arith) hz (next-small y hy) (later-next i z y (omega arith) hz hy l))
+    (run-apart m (i + 1) z (nextLinkId y) (omega arith) (omega arith) hz (next-in-range y hy) (later-next i z y (omega arith) hz hy l))
 
-run-distinct : (n : ℕ) (z : ℤ) → n ≤ 16 → Small z → distinct sameLinkId (run n z) ≡ true
+run-distinct : (n : ℕ) (z : ℤ) → n ≤ 16 → InLinkIdRange z → distinct sameLinkId (run n z) ≡ true
 unfolding run
 run-distinct zero z k h = refl
-run-distinct (suc n) z k h = both (ap not (run-apart n 1 z (nextLinkId z) (le-refl 1) (omega arith) h (next-small z h) after)) (run-distinct n (nextLinkId z) (omega arith) (next-small z h))
+run-distinct (suc n) z k h = both (ap not (run-apart n 1 z (nextLinkId z) (le-refl 1) (omega arith) h (next-in-range z h) after)) (run-distinct n (nextLinkId z) (omega arith) (next-in-range z h))
   where
     by : (rank (nextLinkId z) ≡ rank z + 1) ⊎ ((rank (nextLinkId z) ≡ 0) × (rank z ≡ 65535)) → Later 1 z (nextLinkId z)
     by (inl a) = inl a
@@ -175,68 +155,28 @@ no-more (y ∷ ys) used h k =
     le-trans (suc-le-suc (no-more ys (keep (λ (x : ℤ). not (sameLinkId y x)) used) (right (not (any (sameLinkId y) ys)) _ h) (all-still y ys used (is-not (left (not (any (sameLinkId y) ys)) _ h)) (right (any (sameLinkId y) used) _ k))))
     (fewer (sameLinkId y) used (left (any (sameLinkId y) used) _ k))
 
--- with fewer than 16 live, a value is found
-found : (z : ℤ) (used : List ℤ) → Small z → length used < 16 → (y : ℤ) × (freeLinkId 16 z used ≡ some y)
-found z used h k = go (freeLinkId 16 z used) refl
+-- with fewer than n live, n values hold one that is not
+found : (n : ℕ) (z : ℤ) (used : List ℤ) → n ≤ 16 → InLinkIdRange z → length used < n → (y : ℤ) × (freeLinkId n z used ≡ some y)
+found n z used top h k = go (freeLinkId n z used) refl
   where
-    go : (o : Option ℤ) → freeLinkId 16 z used ≡ o → (y : ℤ) × (freeLinkId 16 z used ≡ some y)
+    go : (o : Option ℤ) → freeLinkId n z used ≡ o → (y : ℤ) × (freeLinkId n z used ≡ some y)
     go none e =
-        let m : length (run 16 z) ≤ length used = no-more (run 16 z) used (run-distinct 16 z (le-refl 16) h) (none-free 16 z used e) in
-        let n : length (run 16 z) ≡ 16 = run-length 16 z in
+        let m : length (run n z) ≤ length used = no-more (run n z) used (run-distinct n z top h) (none-free n z used e) in
+        let l : length (run n z) ≡ n = run-length n z in
         absurd (omega arith)
     go (some y) e = (y, e)
 
--- ---- the candidate of a played board runs from -32768 to 32767
+module _ (z : ℤ) (used : List ℤ) (h : InLinkIdRange z) (few : length used < 16) where
+  one-free : (y : ℤ) × (freeLinkId 16 z used ≡ some y)
+  one-free = found 16 z used (le-refl 16) h few
 
-free-small : (n : ℕ) (z : ℤ) (used : List ℤ) {y : ℤ} → Small z → freeLinkId n z used ≡ some y → Small y
-free-small zero z used h e = let z : _≡_ {A = ℕ} 0 1 = cc in absurd (omega arith)
-free-small (suc n) z used {y} h e = go (any (sameLinkId z) used) e (free-small n (nextLinkId z) used {y = y} (next-small z h))
-  where
-    go : (b : Bool) → unlessLive b z (freeLinkId n (nextLinkId z) used) ≡ some y → (freeLinkId n (nextLinkId z) used ≡ some y → Small y) → Small y
-    go true e f = f e
-    go false e f = let d : z ≡ y = cc in subst Small d h
+  gives : LinkIdGiven z used
+  gives = record {
+    value = one-free .0;
+    first = first-not-live 16 z used (one-free .1);
+    given = λ i. ap (λ (b : Bool). cond b (error i 11) (assign i (freeLinkId 16 z used))) (lt-leb 16 (length used) few) ∙ ap (assign i) (one-free .1);
+  }
 
-service-small : {opt : Options} {ps : List Party} {p : Party} {v : Service} (z : LinkId) → Small (z .0) → ComesTo opt (z .0) ps p v → Small (serviceCandidate v z .0)
-service-small z h silent = h
-service-small z h (respond a) = h
-service-small {ps} z h (assigned {y = y} i e k) = next-small y (free-small 16 (z .0) (live ps) h e)
-service-small z h (transferred i m k) = h
-
-decision-small : {opt : Options} {w : Bool} {es : List Entry} {q : Request} {d : Decision} (z : LinkId) → Small (z .0) → Decided opt (z .0) w es q d → Small (candidateAfter d z .0)
-unfolding candidateAfter
-decision-small z h (refuses c) = h
-decision-small z h (opens-leg e f g) = h
-decision-small z h (sets-state e f) = h
-decision-small z h (sets-auxiliary e f) = h
-decision-small z h (releases m f) = h
-decision-small z h (serves m v) = service-small z h v
-decision-small z h ends-alerting = h
-
-step-small : (b : Board) (e : Event) → Small (b .candidate .0) → Small (stepped b e .board .candidate .0)
-unfolding step stepTested boardAfter decision
-step-small b e h = go (ltb (e .room) 128) (sound b)
-  where
-    go : (x y : Bool) → Small ((cond {A = Outcome} x (refused (refusalNumber refusal.BufferTooSmall) b) (cond y (done (e .order) b (decision b (e .octets))) (refused (refusalNumber refusal.UnsoundBoard) b))) .board .candidate .0)
-    go true y = h
-    go false true = decision-small (b .candidate) h (decided (b .options) (b .candidate .0) (full (b .rows)) (taken (b .rows)) (request (e .octets)))
-    go false false = h
-
-list-small : (b : Board) (list : List Event) → Small (b .candidate .0) → Small (boardAt b list .candidate .0)
-unfolding boardAt
-list-small b [] h = h
-list-small b (e ∷ es) h = list-small (stepped b e .board) es (step-small b e h)
-
-fresh-small : (s a : ℕ) → Small (fresh s a .board .candidate .0)
-unfolding fresh
-fresh-small s a = go (validOptions (options s a))
-  where
-    go : (x : Bool) → Small ((cond {A = Made} x (record { returned = 0; board = emptyBoard (options s a) }) unmade) .board .candidate .0)
-    go true = zero-le
-    go false = zero-le
-
--- on every board that a list of events leads to, with fewer than 16 LinkIds live, a request for one finds one
-pub link-found : (s a : ℕ) (list : List Event) → linkIds (taken (boardAt (fresh s a .board) list .rows)) < 16 →
-    (y : ℤ) × (freeLinkId 16 (boardAt (fresh s a .board) list .candidate .0) (live (calls (taken (boardAt (fresh s a .board) list .rows)))) ≡ some y)
-link-found s a list h =
-    found (boardAt (fresh s a .board) list .candidate .0) (live (calls (taken (boardAt (fresh s a .board) list .rows)))) (list-small (fresh s a .board) list (fresh-small s a))
-    (subst⁻¹ (λ (n : ℕ). n < 16) (live-length (taken (boardAt (fresh s a .board) list .rows))) h)
+-- on every board, sound or not, while fewer than 16 LinkIds are live a call that has none is given the first value that is not live
+pub link-id-given : (b : Board) → InLinkIdRange (b .candidate .0) → linkIds (taken (b .rows)) < 16 → LinkIdGiven (b .candidate .0) (live (calls (taken (b .rows))))
+link-id-given b h few = gives (b .candidate .0) (live (calls (taken (b .rows)))) h (subst⁻¹ (λ (n : ℕ). n < 16) (live-length (taken (b .rows))) few)

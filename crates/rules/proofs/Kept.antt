@@ -35,6 +35,7 @@ use Rattle.rules.specs.Checks.{opened, named, isNamed, mayProgress, deci
 use Rattle.events.specs.EventRecords.{Request, inRange}
 use Rattle.rules.specs.Pairing.{verdict, pairs, heldWithIdle}
 use Rattle.rules.specs.Serving.{live, sameCall, partnerFor, Transfer, Service}
+use Rattle.rules.specs.LinkIdGiven.{upward, FirstNotLive}
 use Rattle.rules.specs.Situations.{call}
 use Rattle.octets.proofs.Lists.{pick-mem, mem-pick, any-has, right, all-at, true-not-false, eqb-eq, left, is-not, both, any-of, eqb-self, none-by, or-right, all-by, any-map, any-ext, distinct-map, all-map, all-ext}
 use Rattle.octets.proofs.Lists.{map-mem, length-keep-map, small-mem, find-mem, mem-keep, test, or-false, none-of, or-left, is-true, keep-map-le, from-true, eqb-of, neither, keep-mem, distinct-keep, keep-keep-le, mem-map, keep-none, eqb-sym}
@@ -245,13 +246,18 @@ holds-sound es v r x e h = plain-sound r (withAuxiliary x) (λ c. refl) (λ c. r
 abbrev linkId : ℤ → LinkId
 linkId z = record { 0 = z }
 
-free-is-free : (n : ℕ) (y : ℤ) (used : List ℤ) {z : ℤ} → freeLinkId n y used ≡ some z → any (sameLinkId z) used ≡ false
-free-is-free zero y used {z} e = let z : _≡_ {A = ℕ} 0 1 = cc in absurd (omega arith)
-free-is-free (suc n) y used {z} e = go (any (sameLinkId y) used) refl e (free-is-free n (nextLinkId y) used {z = z})
+-- a value that is found is the first one that is not live
+pub first-not-live : (n : ℕ) (z : ℤ) (used : List ℤ) {y : ℤ} → freeLinkId n z used ≡ some y → FirstNotLive z used y
+first-not-live zero z used {y} e = let z : _≡_ {A = ℕ} 0 1 = cc in absurd (omega arith)
+first-not-live (suc n) z used {y} e = go (any (sameLinkId z) used) refl e (first-not-live n (nextLinkId z) used {y = y})
   where
-    go : (b : Bool) → any (sameLinkId y) used ≡ b → unlessLive b y (freeLinkId n (nextLinkId y) used) ≡ some z → (freeLinkId n (nextLinkId y) used ≡ some z → any (sameLinkId z) used ≡ false) → any (sameLinkId z) used ≡ false
-    go true h e f = f e
-    go false h e f = let d : y ≡ z = cc in subst (λ (w : ℤ). any (sameLinkId w) used ≡ false) d h
+    before : (f : FirstNotLive (nextLinkId z) used y) → any (sameLinkId z) used ≡ true → (m : ℕ) → m < suc (f .steps) → any (sameLinkId (upward m z)) used ≡ true
+    before f h zero l = h
+    before f h (suc m) l = f .live-before m (omega arith)
+
+    go : (b : Bool) → any (sameLinkId z) used ≡ b → unlessLive b z (freeLinkId n (nextLinkId z) used) ≡ some y → (freeLinkId n (nextLinkId z) used ≡ some y → FirstNotLive (nextLinkId z) used y) → FirstNotLive z used y
+    go true h e f = let r = f e in record { steps = suc (r .steps); reached = r .reached; not-live = r .not-live; live-before = before r h }
+    go false h e f = let d : z ≡ y = cc in record { steps = 0; reached = d; not-live = subst (λ (x : ℤ). any (sameLinkId x) used ≡ false) d h; live-before = λ m l. absurd (omega (arith, l)) }
 
 pub live-any : (z : ℤ) (es : List Entry) → any (sameLinkId z) (live (calls es)) ≡ any (hasLinkId z) es
 live-any z [] = refl
@@ -597,7 +603,7 @@ pair-sound es s opt p q i mp mq h =
 service-sound : {opt : Options} {z : ℤ} {p : Party} {v : Service} (es : List Entry) → Sound es → List·Memᴰ p (calls es) → ComesTo opt z (calls es) p v → Sound (serviceEntries p v es)
 service-sound es s m silent = s
 service-sound es s m (respond a) = s
-service-sound {z} {p} es s m (assigned i e h) = gives-sound (p .call .reference .0) _ es s h (free-is-free 16 z (live (calls es)) e)
+service-sound {z} {p} es s m (assigned i e h) = gives-sound (p .call .reference .0) _ es s h (first-not-live 16 z (live (calls es)) e .not-live)
 service-sound {opt} {p} es s m (transferred {q = q} i n h) = pair-sound es s opt p q i m n h
 
 kept-by : {opt : Options} {z : ℤ} {w : Bool} {q : Request} {d : Decision} (es : List Entry) → Sound es → inRange q ≡ true → Decided opt z w es q d → Sound (entriesAfter d es)

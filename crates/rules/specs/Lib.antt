@@ -1,6 +1,7 @@
 pub mod Replies
 pub mod Pairing
 pub mod Serving
+pub mod LinkIdGiven
 pub mod Checks
 pub mod Step
 pub mod Book

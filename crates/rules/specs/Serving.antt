@@ -1,7 +1,7 @@
 -- Serving what a component asks for (document 01, "Serving it"), over a list of far parties with their calls:
 -- the board's for the board, the book's for the book.
 use Prim.Native.Nat.{ℕ}
-use mathlib.Core.Bool.{Bool, true, false, _&&_, not, cond}
+use mathlib.Core.Bool.{Bool, _&&_, not, cond}
 use mathlib.Core.List.{List}
 use mathlib.Core.Option.{Option, none, some}
 use lib.Dec.{eqb, leb}
@@ -14,10 +14,8 @@ use Rattle.component.specs.declared.Operation.{Operation}
 use Rattle.component.specs.declared.Operation.the-variants.{EctExecute, ExplicitEctExecute, EctLinkIdRequest}
 use Rattle.component.specs.declared.Reading.{Reading}
 use Rattle.component.specs.declared.Reading.the-variants.{Ignored, Rejected, Invoked}
-use Rattle.component.specs.declared.Answer.{Answer}
 use Rattle.component.specs.declared.Answer.the-variants as answer
 use Rattle.board.specs.declared.Options.{Options}
-use Rattle.board.specs.declared.Call.{Call}
 use Rattle.board.specs.declared.Party.{Party}
 use Rattle.board.specs.Entries.{linkIdIn, isLinkId}
 use Rattle.board.specs.LinkIds.{freeLinkId}
@@ -38,7 +36,7 @@ partyLinkId p = linkIdIn (p .call .link)
 abbrev pub live : List Party → List ℤ
 live ps = pick partyLinkId ps
 
--- 16 values always hold one that is free, with fewer than 16 live: see `link-found` in the proofs
+-- with fewer than 16 live, 16 values always hold one that is free, so there is always a value: theorem `link-id-given`
 abbrev pub assign : IntegerOctets → Option ℤ → Service
 assign i none = error i 11
 assign i (some z) = AssignLinkId (record { 0 = z }) i

@@ -1,13 +1,11 @@
 -- The situations that document 01 marks (its section "Situations"), and its worked log, as statements about the rules.
 use Prim.Native.Nat.{ℕ, zero, suc, _+_, _-_}
 use mathlib.Core.Path.{_≡_}
-use mathlib.Core.Bool.{Bool, true, false}
 use mathlib.Core.List.{List, [], _∷_, _++_}
 use lib.IntN.{ℤ, pos, negsuc}
 use lib.ListN.{length, replicate}
 use Rattle.octets.specs.declared.IntegerOctets.the-variants.{One}
 use Rattle.octets.specs.Numbers.{fewest}
-use Rattle.component.specs.declared.Answer.{Answer}
 use Rattle.component.specs.declared.Answer.the-variants as answer
 use Rattle.component.specs.Answers.{integer}
 use Rattle.board.specs.declared.Direction.the-variants.{Outgoing}
@@ -17,14 +15,12 @@ use Rattle.board.specs.declared.AuxiliaryState.{AuxiliaryState}
 use Rattle.board.specs.declared.AuxiliaryState.the-variants.{Idle, HoldRequest, CallHeld}
 use Rattle.board.specs.declared.OptionalLinkId.the-variants.{Absent}
 use Rattle.board.specs.declared.Call.{Call}
-use Rattle.board.specs.declared.Counted.{Counted}
-use Rattle.board.specs.declared.Counted.the-variants.{Counts}
 use Rattle.board.specs.declared.Board.{Board}
 use Rattle.board.specs.Making.{fresh}
 use Rattle.board.specs.Counts.{counts}
 use Rattle.rules.specs.Pairing.{verdict}
 use Rattle.rules.specs.Replies.{ReplyRecord, Reply, Tell, Drop, octets, markOnly, NamedFirst, facility, transferredActive}
-use Rattle.rules.specs.Step.{step, Outcome}
+use Rattle.rules.specs.Step.{step}
 
 -- ---- event records
 
@@ -135,8 +131,10 @@ pub record Situations : Type 0 where
   pub buffer-127 : step NamedFirst (heldAndIdle 2) (openRecord 3) 127 .returned ≡ 1
   pub buffer-128 : step NamedFirst (heldAndIdle 2) (openRecord 3) 128 .returned ≡ 0
   -- "Counts of a fresh board: 0, 0, 0; after a transfer with no third call: legs 2, pairs 1, links 0."
-  pub counts-of-a-fresh-board : counts (fresh 1 1 .board .rows) ≡ Counts 0 0 0
-  pub counts-after-a-transfer : counts (after (heldAndIdle 2) (facilityRecord ectExecute 1 ∷ []) .rows) ≡ Counts 2 1 0
+  pub counts-of-a-fresh-board : counts (fresh 1 1 .board .rows) ≡ record { returned = 0; legs = 0; pairs = 0; links = 0 }
+  pub counts-after-a-transfer :
+      counts (after (heldAndIdle 2) (facilityRecord ectExecute 1 ∷ []) .rows)
+      ≡ record { returned = 0; legs = 2; pairs = 1; links = 0 }
 
 -- ---- the worked log, record by record
 
@@ -167,4 +165,4 @@ pub record WorkedLog : Type 0 where
       ∷ (9 ∷ [])
       ∷ []
   -- "end 1 0 1"
-  pub end : counts (after (fresh 1 0 .board) workedRecords .rows) ≡ Counts 1 0 1
+  pub end : counts (after (fresh 1 0 .board) workedRecords .rows) ≡ record { returned = 0; legs = 1; pairs = 0; links = 1 }

@@ -8,7 +8,7 @@ ghost use lib.Dec.{eqb};
 ghost use lib.ListN.{length, take, drop};
 ghost use Rattle.octets.specs.Lists.{any, distinct};
 ghost use Rattle.board.specs.Soundness.{soundRows, sound as soundBoard};
-ghost use Rattle.board.specs.Counts.{counts};
+ghost use Rattle.board.specs.Counts.{counts, countedAnswer};
 ghost use Rattle.board.specs.Tallies.{tallyOf};
 ghost use Rattle.soundness.specs.Columns.{jointAt, anyAnswers, allAnswered};
 use board::Board;
@@ -208,7 +208,7 @@ pub fn sound(board: Board) -> bool
 
 // The counts of the board's rows, once they are found sound; the options do not matter.
 pub fn count(board: Board) -> Counted
-    ensures { λ r. ⌜ r ≡ counts (board .rows) ⌝ }
+    ensures { λ r. ⌜ countedAnswer r ≡ counts (board .rows) ⌝ }
 {
     let rows = board.rows;
     if sound_rows(rows) {

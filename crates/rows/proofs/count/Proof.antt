@@ -1,5 +1,5 @@
 -- `rows::count`: a walk of its MIR, by hand. With each row the slice is handed on to `meet_all` and `add` is called; at the end `answer` is.
-use mathlib.Core.Path.{refl, _∙_}
+use mathlib.Core.Path.{_≡_, refl, ap, _∙_}
 use Prim.Native.Nat.{ℕ, _≤_, _<_, _^_, _+_}
 use native.Mathlib.Nat.{lt-trans, lt-of-le-of-lt}
 use native.Mathlib.Numerals.{add-one-le}
@@ -29,6 +29,7 @@ use denote.Triple.Statement.{Triple}
 use denote.Triple.Table.{entered, cited}
 use Rattle.board.specs.declared.Row.{Row}
 use Rattle.board.specs.Making.{emptyRow}
+use Rattle.board.specs.Counts.{countedAnswer}
 use Rattle.board.proofs.Row as T
 use Rattle.board.proofs.Row.Laws as T′
 use Rattle.rows.specs.declared.Placed.{Placed}
@@ -62,16 +63,16 @@ start-is = LL.owes S.the-type S′.the-laws start (refl, ((refl, lit< tt), ((ref
 
 -- ---- the callees
 abbrev MeetAll : Def
-MeetAll = record { lent = true; takes = APlaced ∷ []; gives = AMet; asks = λ _ _. none; value = λ _ a. among (a .1 .0) (a .0 .now) }
+MeetAll = record { lent = true; takes = APlaced ∷ []; gives = AMet; asks = λ _ _. none; promise = λ _ a r. r ≡ among (a .1 .0) (a .0 .now) }
 
 abbrev Fit : Sums → Placed → Type 0
 Fit s p = (s .legs ≤ p .place) × (s .joined ≤ p .place) × (s .links ≤ p .place) × (p .place + 1 < 2 ^ 64)
 
 abbrev Add : Def
-Add = record { lent = false; takes = ASums ∷ APlaced ∷ AMet ∷ []; gives = ASums; asks = λ _ a. some (Fit (a .0) (a .1 .0)); value = λ _ a. added (a .0) (a .1 .0) (a .1 .1 .0) }
+Add = record { lent = false; takes = ASums ∷ APlaced ∷ AMet ∷ []; gives = ASums; asks = λ _ a. some (Fit (a .0) (a .1 .0)); promise = λ _ a r. r ≡ added (a .0) (a .1 .0) (a .1 .1 .0) }
 
 abbrev Answer : Def
-Answer = record { lent = false; takes = ASums ∷ []; gives = ACounted; asks = λ _ _. none; value = λ _ a. counted (a .0) }
+Answer = record { lent = false; takes = ASums ∷ []; gives = ACounted; asks = λ _ _. none; promise = λ _ a r. r ≡ counted (a .0) }
 
 -- a turn, once the row is read
 abbrev mid : Body → Body
@@ -130,7 +131,7 @@ module _ {M : Type 1} (𝓤 : URA M) (H : Heap 𝓤) (A : Atoms 𝓤) (W : Given
         returns ! (look ! 14 refl) $ forget ! 6 refl $ forget ! 7 refl $ forget ! 10 refl $ forget ! 14 refl $
         keep ! (14 ∷ 15 ∷ 7 ∷ 16 ∷ 10 ∷ 17 ∷ 6 ∷ 18 ∷ 5 ∷ 19 ∷ 11 ∷ 20 ∷ 12 ∷ 21 ∷ 4 ∷ 22 ∷ 3 ∷ 23 ∷ 2 ∷ 24 ∷ 1 ∷ 25 ∷ 8 ∷ 0 ∷ []) $
         free1 ! $ free1 ! $ free1 ! $ free1 ! $ free1 ! $ free1 ! $ free1 ! $ free1 ! $ free1 ! $ free1 ! $ free1 ! $ free0 ! $
-        join ! $ by ! (leaves Count 𝓤 H A κs qs a W r (e ∙ summing-end ys i s past (h .0)) is))
+        join ! $ by ! (leaves Count 𝓤 H A κs qs a W r (ap countedAnswer e ∙ summing-end ys i s past (h .0)) is))
 
     looped : Sq W (At 𝓤 H A W 𝓣 L 0 start) (runs (𝓣 .C) (𝓣 .Λ) (L .E) pieces.t-3 (atRet (L .E) (L .After)))
     looped = walked-rows 𝓤 H A W 𝓣 L stepping ending start (summing-start ys, start-is)

@@ -1,5 +1,5 @@
 -- `rows::count_in`: a walk of its MIR, by hand. The array is lent as a slice to `count`.
-use mathlib.Core.Path.{refl, sym}
+use mathlib.Core.Path.{_≡_, refl, sym}
 use Prim.Native.Nat.{ℕ}
 use mathlib.Core.Bool.{false}
 use mathlib.Core.Option.{none}
@@ -20,7 +20,7 @@ use denote.Steps.{nothing}
 use denote.Triple.Statement.{Triple}
 use denote.Triple.Entry.{onEntry}
 use denote.Triple.Table.{entered, cited}
-use Rattle.board.specs.Counts.{counts}
+use Rattle.board.specs.Counts.{countedAnswer, counts}
 use Rattle.board.specs.declared.Row.{Row}
 use Rattle.rows.proofs.Types.{ACounted, Count}
 use Rattle.rows.proofs.Calls.{Def, ended, vals, Answers, leaves, walks}
@@ -32,7 +32,7 @@ use Rattle.rows.proofs.count_in.Statement as stated
 use Rattle.rows.proofs.count_in.Code as code
 
 abbrev CountIn : Def
-CountIn = record { lent = false; takes = ARows ∷ []; gives = ACounted; asks = λ _ _. none; value = λ _ a. counts (a .0) }
+CountIn = record { lent = false; takes = ARows ∷ []; gives = ACounted; asks = λ _ _. none; promise = λ _ a r. countedAnswer r ≡ counts (a .0) }
 
 module _ {M : Type 1} (𝓤 : URA M) (H : Heap 𝓤) (A : Atoms 𝓤) (W : Given 𝓤 H A) (𝓣 : Tables 𝓤 H) (known : Triple 𝓤 (𝓣 .C count-def.name) (Answers Count 𝓤 H A)) where
   count-in-meets : Triple 𝓤 (WpFn 𝓤 H (𝓣 .C) (𝓣 .Λ) code.function) (Answers CountIn 𝓤 H A)
@@ -46,7 +46,7 @@ module _ {M : Type 1} (𝓤 : URA M) (H : Heap 𝓤) (A : Atoms 𝓤) (W : Given
       assigns ! (agg ! (and-then ! (load ! (from ! (stop !)) (look ! 2 refl)) (and-then ! (lit ! tt) (no-more !)))) (from ! (stop !)) (init ! 0 refl (tt, (tt, (record { fits = lit< tt }, tt)))) $
       rewrite ! 0 (λ (m : ℕ). ‵ (fat fullShare slice l₄ 0 (sliceVal (l₂, 0) m))) (sym (len 𝓤 H A W ys (good .0))) refl $
       -- [_2; _4; …; _3; …; that _2 dies; _1; …; room for _0; …]
-      move ! (4 ∷ []) $ calls-lending 𝓤 H A W ys (good .0) [] ACounted (Count .value) (λ _. tt) (λ _. tt) l₂ ! (fmOf 𝓤 H (W .laws) 𝓣) known
+      move ! (4 ∷ []) $ calls-lending 𝓤 H A W ys (good .0) [] ACounted (Count .promise) (λ _. tt) (λ _. tt) l₂ ! (fmOf 𝓤 H (W .laws) 𝓣) known
       (λ i j κ γ. and-then ! (load ! (from ! (stop !)) (look ! 2 refl)) (no-more !)) (λ i j. from ! (stop !)) (λ i j v ok. init ! 9 refl ok) (λ κ γ r e is.
       returns ! (look ! 8 refl) $ forget ! 1 refl $ forget ! 3 refl $ forget ! 6 refl $ forget ! 8 refl $
       move ! (8 ∷ 9 ∷ []) $ free1 ! $ move ! (6 ∷ 7 ∷ []) $ free1 ! $ move ! (0 ∷ 5 ∷ []) $ free1 ! $ move ! (2 ∷ 3 ∷ []) $ free1 ! $ free1 ! $ free0 ! $

@@ -1,5 +1,5 @@
 -- `rows::lookup`: a walk that keeps what is found, by `see`.
-use mathlib.Core.Path.{_≡_, refl}
+use mathlib.Core.Path.{_≡_, refl, ap, _∙_}
 use Prim.Native.Nat.{ℕ, suc}
 use mathlib.Core.Bool.{Bool, true, false, cond}
 use mathlib.Core.List.{List, [], _∷_}
@@ -14,7 +14,8 @@ use Rattle.octets.specs.Lists.{orElse, placeFrom}
 use Rattle.octets.specs.declared.CallReference.{CallReference}
 use Rattle.board.specs.declared.Row.{Row}
 use Rattle.board.specs.declared.Found.the-variants.{At, Nothing}
-use Rattle.board.specs.Lookup.{hasCallOf, foundAt, lookup as lookupRows}
+use Rattle.board.specs.Lookup.{hasCallOf, foundAt, foundAnswer, lookup as lookupRows}
+use Rattle.board.proofs.Answers.{lookup-answer}
 use Rattle.board.proofs.Found as S
 use Rattle.board.proofs.Found.Laws as S′
 use Rattle.rows.specs.Steps.{seen}
@@ -28,7 +29,7 @@ use Rattle.rows.proofs.lookup.Statement as stated
 use Rattle.rows.proofs.lookup.Code as code
 
 abbrev fold : Fold AFound AReference
-fold = record { begun = Nothing; begun-is = EL.owes S.the-type S′.the-laws Nothing tt; step = λ s row k i. seen (k .0) s row i; value = λ k ys. lookupRows (k .0) ys }
+fold = record { begun = Nothing; begun-is = EL.owes S.the-type S′.the-laws Nothing tt; step = λ s row k i. seen (k .0) s row i; promise = λ k ys r. foundAnswer r ≡ lookupRows (k .0) ys }
 
 -- what is found stays; else it is what the rows from here on have
 module _ (k : CallReference) where
@@ -45,9 +46,8 @@ module _ (k : CallReference) where
       here true h = stays ys (suc i) i
       here false h = h
 
-  total : (ys : List Row) → folded AFound AReference fold k Nothing 0 ys ≡ lookupRows (k .0) ys
-  unfolding lookupRows
-  total ys = finds ys 0
+  total : (ys : List Row) → foundAnswer (folded AFound AReference fold k Nothing 0 ys) ≡ lookupRows (k .0) ys
+  total ys = ap foundAnswer (finds ys 0) ∙ lookup-answer (k .0) ys
 
 pub lookup-spec : {M : Type 1} → stated.statement M
 unfolding code.routine tablesOf

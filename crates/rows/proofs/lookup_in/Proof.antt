@@ -1,5 +1,5 @@
 -- `rows::lookup_in`: a walk of its MIR, by hand. The array is lent as a slice to `lookup`.
-use mathlib.Core.Path.{refl, sym}
+use mathlib.Core.Path.{_≡_, refl, sym}
 use Prim.Native.Nat.{ℕ}
 use mathlib.Core.Bool.{false}
 use mathlib.Core.Option.{none}
@@ -20,7 +20,7 @@ use denote.Steps.{nothing}
 use denote.Triple.Statement.{Triple}
 use denote.Triple.Entry.{onEntry}
 use denote.Triple.Table.{entered, cited}
-use Rattle.board.specs.Lookup.{lookup as lookupRows}
+use Rattle.board.specs.Lookup.{foundAnswer, lookup as lookupRows}
 use Rattle.board.specs.declared.Row.{Row}
 use Rattle.octets.specs.declared.CallReference.{CallReference}
 use Rattle.rows.proofs.Types.{AReference, AFound, Lookup}
@@ -33,7 +33,7 @@ use Rattle.rows.proofs.lookup_in.Statement as stated
 use Rattle.rows.proofs.lookup_in.Code as code
 
 abbrev LookupIn : Def
-LookupIn = record { lent = false; takes = ARows ∷ AReference ∷ []; gives = AFound; asks = λ _ _. none; value = λ _ a. lookupRows (a .1 .0 .0) (a .0) }
+LookupIn = record { lent = false; takes = ARows ∷ AReference ∷ []; gives = AFound; asks = λ _ _. none; promise = λ _ a r. foundAnswer r ≡ lookupRows (a .1 .0 .0) (a .0) }
 
 module _ {M : Type 1} (𝓤 : URA M) (H : Heap 𝓤) (A : Atoms 𝓤) (W : Given 𝓤 H A) (𝓣 : Tables 𝓤 H) (known : Triple 𝓤 (𝓣 .C lookup-def.name) (Answers Lookup 𝓤 H A)) where
   lookup-in-meets : Triple 𝓤 (WpFn 𝓤 H (𝓣 .C) (𝓣 .Λ) code.function) (Answers LookupIn 𝓤 H A)
@@ -48,7 +48,7 @@ module _ {M : Type 1} (𝓤 : URA M) (H : Heap 𝓤) (A : Atoms 𝓤) (W : Given
       assigns ! (agg ! (and-then ! (load ! (from ! (stop !)) (look ! 2 refl)) (and-then ! (lit ! tt) (no-more !)))) (from ! (stop !)) (init ! 0 refl (tt, (tt, (record { fits = lit< tt }, tt)))) $
       rewrite ! 0 (λ (m : ℕ). ‵ (fat fullShare slice l₅ 0 (sliceVal (l₃, 0) m))) (sym (len 𝓤 H A W ys (good .0))) refl $
       -- [_3; _5; …; _4; …; that _3 dies; _2; …; _1; …; room for _0; …]
-      move ! (4 ∷ []) $ calls-lending 𝓤 H A W ys (good .0) (AReference ∷ []) AFound (Lookup .value) (λ _. (k, tt)) (λ _. (good .1 .0, tt)) l₃ ! (fmOf 𝓤 H (W .laws) 𝓣) known
+      move ! (4 ∷ []) $ calls-lending 𝓤 H A W ys (good .0) (AReference ∷ []) AFound (Lookup .promise) (λ _. (k, tt)) (λ _. (good .1 .0, tt)) l₃ ! (fmOf 𝓤 H (W .laws) 𝓣) known
       (λ i j κ γ. and-then ! (load ! (from ! (stop !)) (look ! 2 refl)) (and-then ! (load ! (from ! (stop !)) (look ! 7 refl)) (no-more !))) (λ i j. from ! (stop !)) (λ i j v ok. init ! 11 refl ok) (λ κ γ r e is.
       returns ! (look ! 10 refl) $ forget ! 1 refl $ forget ! 3 refl $ forget ! 6 refl $ forget ! 8 refl $ forget ! 10 refl $
       move ! (10 ∷ 11 ∷ []) $ free1 ! $ move ! (8 ∷ 9 ∷ []) $ free1 ! $ move ! (6 ∷ 7 ∷ []) $ free1 ! $ move ! (0 ∷ 5 ∷ []) $ free1 ! $ move ! (2 ∷ 3 ∷ []) $ free1 ! $ free1 ! $ free0 ! $

@@ -37,7 +37,7 @@ abbrev unmet : Met
 unmet = record { clashes = false; paired = false }
 
 abbrev fold : Fold AMet APlaced
-fold = record { begun = unmet; begun-is = LL.owes S.the-type S′.the-laws unmet (refl, (refl, tt)); step = meeting; value = among }
+fold = record { begun = unmet; begun-is = LL.owes S.the-type S′.the-laws unmet (refl, (refl, tt)); step = meeting; promise = λ p ys r. r ≡ among p ys }
 
 -- of these rows, the first at place i, one after p clashes with it
 abbrev laterFrom : Placed → ℕ → List Row → Bool
