@@ -9,6 +9,7 @@ use libc::STDERR_FILENO;
 use libc::STDIN_FILENO;
 use libc::STDOUT_FILENO;
 use playing::Pause;
+use playing::Played;
 use playing::play;
 use soundness::count;
 ghost use Prim.Native.Nat.{_+_, _≤_};
@@ -93,6 +94,13 @@ fn refill(log: Log, input: &mut [u8]) -> Log
     }
 }
 
+// Plays a piece of the log. What is read lies in the piece, and what is written in the buffer.
+fn play_piece(log: Log, piece: &[u8], output: &mut [u8]) -> Played
+    ensures { λ r. ⌜ (r .read ≤ length (now (piece .entry))) × (r .written ≤ length (now (output .exit))) ⌝ }
+{
+    play(log.board, log.number, piece, log.ended, output)
+}
+
 // Plays what is in the buffer as far as it goes, writes its lines, and sees to it that there is more to play.
 fn turn(log: Log, input: &mut [u8], output: &mut [u8]) -> Log
     requires { ⌜ (log .from ≤ log .to) × (log .to ≤ length (now input)) ⌝ }
@@ -100,7 +108,7 @@ fn turn(log: Log, input: &mut [u8], output: &mut [u8]) -> Log
 {
     let from = log.from;
     let to = log.to;
-    let played = play(log.board, log.number, &input[from..to], log.ended, output);
+    let played = play_piece(log, &input[from..to], output);
     let is_written = write(played.written, output);
     let board = played.board;
     let next = Log {
