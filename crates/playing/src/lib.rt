@@ -10,6 +10,7 @@ use soundness::sound;
 ghost use mathlib.Core.Path.{_≡_};
 ghost use Prim.Native.Nat.{_≤_, _<_};
 ghost use lib.ListN.{length, getD};
+ghost use Rattle.board.specs.Soundness.{sound as soundBoard};
 ghost use Rattle.playing.specs.Log.{stopsReading};
 ghost use Rattle.playing.specs.Playing.{Tells, frontLength, pauseAtEnd, pausedAt, Plays};
 
@@ -104,11 +105,25 @@ fn paused(board: Board, number: u64, read: usize, written: usize, pause: Pause) 
     }
 }
 
-// Plays the records of a piece. The board is tested once: every board after it is sound where it is. A number that 64 bits do not hold is not given: the reading ends at the one before.
+// Plays the records of a piece. A number that 64 bits do not hold is not given: the reading ends at the one before.
 pub fn play(start: Board, before: u64, piece: &[u8], is_last: bool, out: &mut [u8]) -> Played
     ensures { λ r. ⌜ Plays start before (now (piece .entry)) «is_last» (now (out .entry)) (now (out .exit)) r ⌝ }
 {
-    let is_sound = sound(start);
+    play_tested(start, sound(start), before, piece, is_last, out)
+}
+
+// The board is tested once: a step keeps soundness.
+fn play_tested(
+    start: Board,
+    is_sound: bool,
+    before: u64,
+    piece: &[u8],
+    is_last: bool,
+    out: &mut [u8],
+) -> Played
+    requires { ⌜ «is_sound» ≡ soundBoard start ⌝ }
+    ensures { λ r. ⌜ Plays start before (now (piece .entry)) «is_last» (now (out .entry)) (now (out .exit)) r ⌝ }
+{
     let mut board = start;
     let mut number = before;
     let mut read = 0;
@@ -136,7 +151,7 @@ pub fn play(start: Board, before: u64, piece: &[u8], is_last: bool, out: &mut [u
         read += taken;
         text += told.written;
         if stops(told.returned) {
-            return paused(board, number, read, text, Pause::End);
+            return paused(board, number, read, text, Pause::End); // Nothing behind it is read.
         }
     }
     paused(board, number, read, text, at_end(is_last))
