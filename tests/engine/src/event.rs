@@ -2,6 +2,7 @@
 
 use crate::board::{Aux, Board, Call, CallState, Number, Reference, Row, Standing, INCOMING};
 use crate::index::Index;
+use crate::lookup::{Lookup, Walk};
 use crate::reply::{Message, Replies, ACTIVE, BUFFER};
 use crate::serve::serve;
 
@@ -97,32 +98,58 @@ fn read_facility(high: u8, low: u8, count: u8, octets: &[u8]) -> Option<Event<'_
 
 /// Plays one event into a board. A refusal changes neither board nor buffer.
 pub fn event(board: &mut Board, record: &[u8], buffer: &mut [u8]) -> Answer {
-    match try_event(board, record, buffer) {
+    answered(tested_event(board, record, buffer))
+}
+
+/// The same on a board that is known to be sound, which is not tested.
+pub fn event_on_sound(board: &mut Board, record: &[u8], buffer: &mut [u8]) -> Answer {
+    answered(room(buffer).and_then(|buffer| sound_event(board, &Walk, record, buffer)))
+}
+
+#[inline]
+fn answered(done: Result<usize, u8>) -> Answer {
+    match done {
         Ok(written) => Answer { returned: 0, written },
         Err(returned) => Answer { returned, written: 0 },
     }
 }
 
-fn try_event(board: &mut Board, record: &[u8], buffer: &mut [u8]) -> Result<usize, u8> {
-    let buffer = buffer.first_chunk_mut::<BUFFER>().ok_or(1)?;
+#[inline]
+fn room(buffer: &mut [u8]) -> Result<&mut [u8; BUFFER], u8> {
+    buffer.first_chunk_mut::<BUFFER>().ok_or(1)
+}
+
+#[inline]
+fn tested_event(board: &mut Board, record: &[u8], buffer: &mut [u8]) -> Result<usize, u8> {
+    let buffer = room(buffer)?;
     let mut index = Index::empty();
     if !index.fill(board) {
         return Err(2);
     }
+    sound_event(board, &index, record, buffer)
+}
+
+#[inline]
+fn sound_event(
+    board: &mut Board,
+    index: &impl Lookup,
+    record: &[u8],
+    buffer: &mut [u8; BUFFER],
+) -> Result<usize, u8> {
     let mut replies = Replies::new(buffer);
     match Event::read(record)? {
         Event::Open { reference, leg, direction, presentation, number } => {
             let row = opened(reference, leg, direction, presentation, number);
-            open(board, &index, reference, row)?;
+            open(board, index, reference, row)?;
         }
-        Event::Progress { reference, state } => progress(board, &index, reference, state)?,
-        Event::Hold { reference, aux } => hold(board, &index, reference, aux)?,
-        Event::Release { leg } => release(board, &index, leg, &mut replies)?,
+        Event::Progress { reference, state } => progress(board, index, reference, state)?,
+        Event::Hold { reference, aux } => hold(board, index, reference, aux)?,
+        Event::Release { leg } => release(board, index, leg, &mut replies)?,
         Event::Facility { reference, component } => {
-            let (place, call) = named(board, &index, reference)?;
-            serve(board, place, call, index.live(), component, &mut replies);
+            let (place, call) = named(board, index, reference)?;
+            serve(board, place, call, index, component, &mut replies);
         }
-        Event::Answer { leg } => answer(board, &index, leg, &mut replies)?,
+        Event::Answer { leg } => answer(board, index, leg, &mut replies)?,
     }
     Ok(replies.written())
 }
@@ -133,26 +160,31 @@ fn opened(reference: Reference, leg: u32, direction: u8, presentation: u8, numbe
     Row { leg, standing: Standing::Served(call), presentation, number }
 }
 
-fn open(board: &mut Board, index: &Index, reference: Reference, row: Row) -> Result<(), u8> {
+fn open(board: &mut Board, index: &impl Lookup, reference: Reference, row: Row) -> Result<(), u8> {
     if index.leg(&board.rows, row.leg).is_some() {
         return Err(6);
     }
     if index.reference(&board.rows, reference).is_some() {
         return Err(7);
     }
-    let place = index.lowest_empty().ok_or(8)?;
+    let place = index.lowest_empty(&board.rows).ok_or(8)?;
     board.rows[place] = row;
     Ok(())
 }
 
 /// The call that an event names, with its place.
-fn named(board: &Board, index: &Index, reference: Reference) -> Result<(usize, Call), u8> {
+fn named(board: &Board, index: &impl Lookup, reference: Reference) -> Result<(usize, Call), u8> {
     let place = index.reference(&board.rows, reference).ok_or(9)?;
     let call = board.rows[place].call().ok_or(9)?;
     Ok((place, *call))
 }
 
-fn progress(board: &mut Board, index: &Index, reference: Reference, state: CallState) -> Result<(), u8> {
+fn progress(
+    board: &mut Board,
+    index: &impl Lookup,
+    reference: Reference,
+    state: CallState,
+) -> Result<(), u8> {
     use CallState::{Active, Delivered, Proceeding, Received};
     let (place, call) = named(board, index, reference)?;
     match (call.state, state) {
@@ -164,7 +196,7 @@ fn progress(board: &mut Board, index: &Index, reference: Reference, state: CallS
     }
 }
 
-fn hold(board: &mut Board, index: &Index, reference: Reference, aux: Aux) -> Result<(), u8> {
+fn hold(board: &mut Board, index: &impl Lookup, reference: Reference, aux: Aux) -> Result<(), u8> {
     use Aux::{Held, HoldRequest, Idle, RetrieveRequest};
     let (place, call) = named(board, index, reference)?;
     match (call.aux, aux) {
@@ -181,7 +213,7 @@ fn hold(board: &mut Board, index: &Index, reference: Reference, aux: Aux) -> Res
     }
 }
 
-fn release(board: &mut Board, index: &Index, leg: u32, replies: &mut Replies) -> Result<(), u8> {
+fn release(board: &mut Board, index: &impl Lookup, leg: u32, replies: &mut Replies) -> Result<(), u8> {
     let place = index.leg(&board.rows, leg).ok_or(10)?;
     match board.rows[place].standing {
         Standing::Empty => return Err(10),
@@ -197,7 +229,7 @@ fn release(board: &mut Board, index: &Index, leg: u32, replies: &mut Replies) ->
     Ok(())
 }
 
-fn answer(board: &mut Board, index: &Index, leg: u32, replies: &mut Replies) -> Result<(), u8> {
+fn answer(board: &mut Board, index: &impl Lookup, leg: u32, replies: &mut Replies) -> Result<(), u8> {
     let place = index.leg(&board.rows, leg).ok_or(10)?;
     let row = &mut board.rows[place];
     let Standing::Joined { partner, alerts: true } = row.standing else { return Err(11) };

@@ -6,6 +6,7 @@ pub mod board;
 pub mod component;
 pub mod event;
 pub mod index;
+pub mod lookup;
 pub mod play;
 pub mod reply;
 pub mod rows;
@@ -28,6 +29,7 @@ pub mod tally;
 
 // Playing them through another program.
 pub mod compare;
+pub mod cpu;
 pub mod load;
 pub mod program;
 pub mod timing;

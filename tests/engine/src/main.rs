@@ -7,12 +7,15 @@ use std::time::Instant;
 
 use engine::compare::{against, engine_alone};
 use engine::logs::DEFAULT_SEED;
+use engine::play::{play, play_tested_once};
+use engine::rng::Rng;
 use engine::tally::Tally;
-use engine::{play, timing};
+use engine::{load, timing};
 
 const USAGE: &str = "engine check PATH [SEED]   compare a player with the engine
-engine time PATH           events per second of a player and of the engine
-engine play                play the log on standard input
+engine time PATH           speed of a player and of the engine
+engine play [once]         play the log on standard input; once: the board is tested once
+engine load LEGS EVENTS    write a log that keeps about so many legs
 engine self [SEED]         play the logs through the engine alone";
 
 fn main() -> ExitCode {
@@ -22,7 +25,9 @@ fn main() -> ExitCode {
         ["check", path, seed @ ..] => run(seed, |seed| against(path, seed)),
         ["self", seed @ ..] => run(seed, engine_alone),
         ["time", path] => time(path),
-        ["play"] => play_input().map_err(|error| error.to_string()),
+        ["play"] => play_input(play),
+        ["play", "once"] => play_input(play_tested_once),
+        ["load", legs, events] => load(legs, events),
         _ => Err(USAGE.to_string()),
     };
     match done {
@@ -53,10 +58,21 @@ fn time(path: &str) -> Result<(), String> {
     timing::time(path, &own.to_string_lossy())
 }
 
-fn play_input() -> io::Result<()> {
+fn play_input(play: fn(&[u8], &mut Vec<u8>) -> u64) -> Result<(), String> {
     let mut log = Vec::new();
     let mut text = Vec::new();
-    io::stdin().read_to_end(&mut log)?;
-    play::play(&log, &mut text);
-    io::stdout().write_all(&text)
+    io::stdin().read_to_end(&mut log).map_err(|error| error.to_string())?;
+    play(&log, &mut text);
+    write_output(&text)
+}
+
+/// Writes a log as `time` plays it, for other measuring tools.
+fn load(legs: &str, events: &str) -> Result<(), String> {
+    let number = |text: &str| text.parse().map_err(|_| format!("{text}: not a decimal number"));
+    let (log, _) = load::log(&mut Rng::new(DEFAULT_SEED), number(legs)?, number(events)?);
+    write_output(&log)
+}
+
+fn write_output(octets: &[u8]) -> Result<(), String> {
+    io::stdout().write_all(octets).map_err(|error| error.to_string())
 }

@@ -1,9 +1,9 @@
 //! The player: a log in, the text out.
 
 use crate::board::Board;
-use crate::event::{body_length, event};
+use crate::event::{body_length, event, event_on_sound, Answer};
 use crate::reply::BUFFER;
-use crate::rows::count;
+use crate::rows::{board_sound, count};
 
 /// Two lower-case hex digits for each octet value.
 const HEX: [[u8; 2]; 256] = {
@@ -39,6 +39,27 @@ pub fn next_record(rest: &[u8]) -> Option<(&[u8], &[u8])> {
 
 /// Plays a whole log; gives the number of events.
 pub fn play(log: &[u8], text: &mut Vec<u8>) -> u64 {
+    play_by(log, text, event)
+}
+
+/// The same text, the board tested once for the log: an event keeps it sound.
+pub fn play_tested_once(log: &[u8], text: &mut Vec<u8>) -> u64 {
+    let mut known = None;
+    play_by(log, text, |board, record, buffer| {
+        if *known.get_or_insert_with(|| board_sound(board)) {
+            event_on_sound(board, record, buffer)
+        } else {
+            event(board, record, buffer)
+        }
+    })
+}
+
+#[inline]
+fn play_by(
+    log: &[u8],
+    text: &mut Vec<u8>,
+    mut step: impl FnMut(&mut Board, &[u8], &mut [u8]) -> Answer,
+) -> u64 {
     let Some((mut board, mut rest)) = start(log) else {
         text.extend_from_slice(b"bad options\n");
         return 0;
@@ -48,7 +69,7 @@ pub fn play(log: &[u8], text: &mut Vec<u8>) -> u64 {
     while let Some((record, after)) = next_record(rest) {
         number += 1;
         let mut buffer = [0; BUFFER];
-        let answer = event(&mut board, record, &mut buffer);
+        let answer = step(&mut board, record, &mut buffer);
         write_line(text, number, record[0], answer.returned, &buffer[..answer.written]);
         rest = after;
     }

@@ -72,6 +72,7 @@ fn partner_agrees(rows: &[Row], place: usize, row: &Row) -> bool {
     })
 }
 
-fn live(rows: &[Row]) -> usize {
+/// How many LinkIds are live.
+pub fn live(rows: &[Row]) -> usize {
     rows.iter().filter(|row| row.call().is_some_and(|call| call.link.is_some())).count()
 }

@@ -2,6 +2,7 @@
 
 use crate::board::{Aux, Board, Call, CallState, LinkId, Row, Standing, MAX_LIVE, OUTGOING, ROWS};
 use crate::component::{read, Operation, Reading, LINK_REQUEST};
+use crate::lookup::Lookup;
 use crate::reply::{Component, Message, Replies, ACTIVE, ALERTING};
 
 pub const NOT_SUBSCRIBED: u8 = 0;
@@ -15,12 +16,12 @@ enum Outcome {
     Transfer(usize),
 }
 
-/// Serves a component on the call at `place`. `live` counts the live LinkIds.
+/// Serves a component on the call at `place`.
 pub fn serve(
     board: &mut Board,
     place: usize,
     call: Call,
-    live: usize,
+    index: &impl Lookup,
     component: &[u8],
     replies: &mut Replies,
 ) {
@@ -31,7 +32,7 @@ pub fn serve(
         }
         Reading::Invoke { identifier, operation } => (identifier, operation),
     };
-    let outcome = decide(board, place, &call, live, operation);
+    let outcome = decide(board, place, &call, index, operation);
     let component = match outcome {
         Outcome::Error(value) => Component::error(identifier, value),
         Outcome::NotAssigned => Component::not_assigned(identifier),
@@ -46,7 +47,7 @@ pub fn serve(
     }
 }
 
-fn decide(board: &Board, place: usize, call: &Call, live: usize, operation: Operation) -> Outcome {
+fn decide(board: &Board, place: usize, call: &Call, index: &impl Lookup, operation: Operation) -> Outcome {
     if board.subscribed == 0 {
         return Outcome::Error(NOT_SUBSCRIBED);
     }
@@ -54,7 +55,7 @@ fn decide(board: &Board, place: usize, call: &Call, live: usize, operation: Oper
         Operation::LinkRequest => {
             return match call.link {
                 Some(link) => Outcome::Link(link),
-                None if live >= MAX_LIVE => Outcome::Error(UNAVAILABLE),
+                None if index.live(&board.rows) >= MAX_LIVE => Outcome::Error(UNAVAILABLE),
                 None => Outcome::Link(free_link(board)),
             };
         }

@@ -5,9 +5,11 @@ mod common;
 use common::ID;
 use engine::board::Reference;
 use engine::compare::compare;
+use engine::event::{event, event_on_sound};
+use engine::load;
 use engine::logs::{steered, Logs};
 use engine::notice::watch;
-use engine::play::play;
+use engine::play::{next_record, play, play_tested_once, start};
 use engine::records;
 use engine::rng::Rng;
 use engine::tally::Tally;
@@ -82,4 +84,36 @@ fn nothing_forbidden_happens() {
         assert_eq!(watch(&log, &mut tally), Ok(()));
     }
     assert!(tally.events > 5_000);
+}
+
+/// With soundness known, each event returns and leaves the same.
+#[test]
+fn tested_or_known_to_be_sound() {
+    let mut rng = Rng::new(41);
+    for _ in 0..60 {
+        let log = steered(&mut rng);
+        let Some((mut tested, mut rest)) = start(&log) else { continue };
+        let mut known = tested.clone();
+        while let Some((record, after)) = next_record(rest) {
+            let (mut a, mut b) = ([0; 128], [0; 128]);
+            let answer = event(&mut tested, record, &mut a);
+            assert_eq!(answer, event_on_sound(&mut known, record, &mut b));
+            assert_eq!((&tested, a), (&known, b));
+            rest = after;
+        }
+    }
+}
+
+/// The two players that are timed give one text.
+#[test]
+fn tested_once_or_at_each_event() {
+    let mut rng = Rng::new(31);
+    let mut logs: Vec<_> = (0..200).map(|_| steered(&mut rng)).collect();
+    logs.extend([4, 16, 64].map(|legs| load::log(&mut rng, legs, 2_000).0));
+    logs.extend([vec![], vec![1], vec![2, 0], vec![1, 1]]);
+    for log in &logs {
+        let (mut each, mut once) = (Vec::new(), Vec::new());
+        assert_eq!(play(log, &mut each), play_tested_once(log, &mut once));
+        assert_eq!(each, once, "log {log:02x?}");
+    }
 }
