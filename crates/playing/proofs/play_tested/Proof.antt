@@ -7,7 +7,8 @@ use lib.ListN.{length, take, drop, length-drop, length-map}
 use borrow.Author.Needs.{needs}
 use Rattle.board.specs.Soundness.{sound}
 use Rattle.octets.proofs.Places.{rest}
-use Rattle.playing.specs.Playing.{frontLength}
+use Rattle.playing.specs.Log.{largestNumber}
+use Rattle.playing.specs.Playing.{frontLength, longestLine}
 use Rattle.playing.proofs.PlayingLaws.{plays-full, plays-part, plays-most, plays-end}
 use Rattle.playing.proofs.TurnLaws.{SoFar, starts, pauses, turns-on, turns-last, tells-step, stays-sound, part-of}
 use Rattle.playing.proofs.play_tested.Statement.{statement}
@@ -45,7 +46,10 @@ returns : tie.Need-returns Inv-loop μ-loop
 returns c =
     let v = c .before .before .before .before .before .before .args in
     let at = c .before .before .before .loop in
-    rw (c .paused .ensures) (pauses (at .inv .5) (plays-full [] (at .board) (at .number) (drop (at .read) (v .piece .now)) (v .is-last) (length (v .out .now) - at .text) (omega (arith, length-drop (at .read) (v .piece .now))) (omega (arith, c .before .if1 .taken, at .inv .2))))
+    let some = length-drop (at .read) (v .piece .now) in
+    rw (c .paused .ensures)
+    (pauses (at .inv .5)
+    (plays-full [] (at .board) (at .number) (drop (at .read) (v .piece .now)) (v .is-last) (length (v .out .now) - at .text) (omega (arith, some)) (omega (arith, c .before .if1 .taken, at .inv .2))))
 
 sub-front-length : tie.Need-sub-front-length Inv-loop μ-loop
 sub-front-length c = search needs
@@ -69,7 +73,12 @@ returns-2 : tie.Need-returns-2 Inv-loop μ-loop
 returns-2 c =
     let v = c .before .before .before .before .before .before .before .before .before .args in
     let at = c .before .before .before .before .before .before .loop in
-    rw (c .paused2 .ensures) (pauses (at .inv .5) (plays-part [] (at .board) (at .number) (drop (at .read) (v .piece .now)) (v .is-last) (length (v .out .now) - at .text) (omega (arith, length-drop (at .read) (v .piece .now))) (omega (arith, c .before .before .before .before .if1 .left, at .inv .2)) (sym (c .before .before .front-length .ensures .0 ∙ ap (frontLength (v .is-last)) (rest (at .read) (v .piece .now))) ∙ c .before .if2 .taken)))
+    let some = length-drop (at .read) (v .piece .now) in
+    let front = c .before .before .front-length .ensures .0 ∙ ap (frontLength (v .is-last)) (rest (at .read) (v .piece .now)) in
+    rw (c .paused2 .ensures)
+    (pauses (at .inv .5)
+    (plays-part [] (at .board) (at .number) (drop (at .read) (v .piece .now)) (v .is-last) (length (v .out .now) - at .text) (omega (arith, some))
+    (omega (arith, c .before .before .before .before .if1 .left, at .inv .2)) (sym front ∙ c .before .if2 .taken)))
 
 paused-requires-3 : tie.Need-paused-requires-3 Inv-loop μ-loop
 paused-requires-3 c κs = search needs
@@ -81,7 +90,12 @@ returns-3 : tie.Need-returns-3 Inv-loop μ-loop
 returns-3 c =
     let v = c .before .before .before .before .before .before .before .before .before .before .args in
     let at = c .before .before .before .before .before .before .before .loop in
-    rw (c .paused3 .ensures) (pauses (at .inv .5) (plays-most [] (at .board) (at .number) (drop (at .read) (v .piece .now)) (v .is-last) (length (v .out .now) - at .text) (omega (arith, length-drop (at .read) (v .piece .now))) (omega (arith, c .before .before .before .before .before .if1 .left, at .inv .2)) (omega (arith, c .before .before .if2 .left, c .before .before .before .front-length .ensures .0 ∙ ap (frontLength (v .is-last)) (rest (at .read) (v .piece .now)))) (c .before .if3 .taken)))
+    let some = length-drop (at .read) (v .piece .now) in
+    let front = c .before .before .before .front-length .ensures .0 ∙ ap (frontLength (v .is-last)) (rest (at .read) (v .piece .now)) in
+    rw (c .paused3 .ensures)
+    (pauses (at .inv .5)
+    (plays-most [] (at .board) (at .number) (drop (at .read) (v .piece .now)) (v .is-last) (length (v .out .now) - at .text) (omega (arith, some))
+    (omega (arith, c .before .before .before .before .before .if1 .left, at .inv .2)) (omega (arith, c .before .before .if2 .left, front)) (c .before .if3 .taken)))
 
 add-number : tie.Need-add-number Inv-loop μ-loop
 add-number c = search needs
@@ -153,6 +167,18 @@ front-of c = c .before .before .before .before .before .before .before .before .
 is-front : (c : Turn) → front-of c ≡ frontLength (c .before .before .before .before .before .before .before .before .before .before .before .before .before .before .before .before .before .args .is-last) (drop (read-of c) (piece-of c))
 is-front c = c .before .before .before .before .before .before .before .before .before .before .front-length .ensures .0 ∙ ap (frontLength (c .before .before .before .before .before .before .before .before .before .before .before .before .before .before .before .before .before .args .is-last)) (rest (read-of c) (piece-of c))
 
+more : (c : Turn) → read-of c < length (piece-of c)
+more c = c .before .before .before .before .before .before .before .before .before .before .before .before .before .loop-test .taken
+
+room-left : (c : Turn) → longestLine ≤ length (out-of c) - text-of c
+room-left c = omega (arith, c .before .before .before .before .before .before .before .before .before .before .before .before .if1 .left)
+
+fewer : (c : Turn) → c .before .before .before .before .before .before .before .before .before .before .before .before .before .before .loop .number < largestNumber
+fewer c = omega (arith, c .before .before .before .before .before .before .before .before .if3 .left)
+
+some : (c : Turn) → 0 < front-of c
+some c = omega (arith, c .before .before .before .before .before .before .before .before .before .if2 .left)
+
 within : (c : Turn) → read-of c + front-of c ≤ length (piece-of c)
 within c =
     let q : front-of c ≤ length (take (length (piece-of c) - read-of c) (drop (read-of c) (piece-of c))) = c .before .before .before .before .before .before .before .before .before .before .front-length .ensures .1 in
@@ -164,10 +190,12 @@ returns-4 c =
     let at = c .before .before .before .before .before .before .before .before .before .before .before .before .before .before .before .before .loop in
     let f = c .before .before .before .before .before .before .before .before .before .before .before .before .front-length .result in
     let t = c .before .before .before .before .before .before .before .tell in
-    let s = tells-step (t .ensures .0) (at .board) (take (at .read + f - at .read) (drop (at .read) (v .piece .now))) (at .inv .3) (t .ensures .1) in
-    rw (c .paused4 .ensures) (turns-last (at .inv .5) f (take (at .read + f - at .read) (drop (at .read) (v .piece .now))) (take (length (at .out) - at .text) (drop (at .text) (at .out))) _ (t .ensures .0) (t .result)
-    (c .before .before .before .before .before .before .before .before .before .before .before .before .before .before .before .loop-test .taken) (omega (arith, at .inv .1, at .inv .2)) (at .inv .2) (omega (arith, c .before .before .before .before .before .before .before .before .before .before .before .before .before .before .if1 .left)) (omega (arith, c .before .before .before .before .before .before .before .before .before .before .if3 .left))
-    (is-front (c .before .before)) (omega (arith, c .before .before .before .before .before .before .before .before .before .before .before .if2 .left)) (part-of (at .read) f (v .piece .now)) (rest (at .text) (at .out)) s (sym (c .before .before .stops .ensures) ∙ c .before .if4 .taken))
+    let event = take (at .read + f - at .read) (drop (at .read) (v .piece .now)) in
+    let s = tells-step (t .ensures .0) (at .board) event (at .inv .3) (t .ensures .1) in
+    rw (c .paused4 .ensures)
+    (turns-last (at .inv .5) f event (take (length (at .out) - at .text) (drop (at .text) (at .out))) _ (t .ensures .0) (t .result)
+    (more (c .before .before)) (omega (arith, at .inv .1, at .inv .2)) (at .inv .2) (room-left (c .before .before)) (fewer (c .before .before)) (is-front (c .before .before)) (some (c .before .before))
+    (part-of (at .read) f (v .piece .now)) (rest (at .text) (at .out)) s (sym (c .before .before .stops .ensures) ∙ c .before .if4 .taken))
 
 loop-less : tie.Need-loop-less Inv-loop μ-loop
 loop-less c = search needs
@@ -178,16 +206,17 @@ loop-again c =
     let at = c .before .before .before .before .before .before .before .before .before .before .before .before .before .before .before .loop in
     let f = c .before .before .before .before .before .before .before .before .before .before .before .front-length .result in
     let t = c .before .before .before .before .before .before .tell in
-    let s = tells-step (t .ensures .0) (at .board) (take (at .read + f - at .read) (drop (at .read) (v .piece .now))) (at .inv .3) (t .ensures .1) in
-    let k = stays-sound (t .ensures .0) (at .board) (take (at .read + f - at .read) (drop (at .read) (v .piece .now))) (at .inv .3) (t .ensures .1) (at .inv .4) in (
+    let event = take (at .read + f - at .read) (drop (at .read) (v .piece .now)) in
+    let s = tells-step (t .ensures .0) (at .board) event (at .inv .3) (t .ensures .1) in
+    let k = stays-sound (t .ensures .0) (at .board) event (at .inv .3) (t .ensures .1) (at .inv .4) in (
       within (c .before),
       search needs,
       search needs,
       k .0,
       k .1,
-      turns-on (at .inv .5) f (take (at .read + f - at .read) (drop (at .read) (v .piece .now))) (take (length (at .out) - at .text) (drop (at .text) (at .out))) _ (t .ensures .0) (t .result)
-          (c .before .before .before .before .before .before .before .before .before .before .before .before .before .before .loop-test .taken) (omega (arith, at .inv .1, at .inv .2)) (at .inv .2) (omega (arith, c .before .before .before .before .before .before .before .before .before .before .before .before .before .if1 .left)) (omega (arith, c .before .before .before .before .before .before .before .before .before .if3 .left))
-          (is-front (c .before)) (omega (arith, c .before .before .before .before .before .before .before .before .before .before .if2 .left)) (part-of (at .read) f (v .piece .now)) (rest (at .text) (at .out)) s (sym (c .before .stops .ensures) ∙ c .if4 .left),
+      turns-on (at .inv .5) f event (take (length (at .out) - at .text) (drop (at .text) (at .out))) _ (t .ensures .0) (t .result)
+          (more (c .before)) (omega (arith, at .inv .1, at .inv .2)) (at .inv .2) (room-left (c .before)) (fewer (c .before)) (is-front (c .before)) (some (c .before))
+          (part-of (at .read) f (v .piece .now)) (rest (at .text) (at .out)) s (sym (c .before .stops .ensures) ∙ c .if4 .left),
     )
 
 at-end-requires : tie.Need-at-end-requires Inv-loop μ-loop
