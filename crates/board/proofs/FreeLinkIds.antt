@@ -16,7 +16,7 @@ use Rattle.board.specs.declared.Found.the-variants.{At, Nothing}
 use Rattle.board.specs.declared.finding.Key.the-variants as key
 use Rattle.board.specs.Entries.{Connection, WithUser, WithPartner, Entry, Party, taken, partyOf, calls, linkIdIn, linkIdOf, isLinkId, hasLinkId}
 use Rattle.board.specs.Lookup.{foundAt}
-use Rattle.board.specs.Keys.{matchesKey}
+use Rattle.board.specs.Code.Keys.{matchesKey}
 use Rattle.board.specs.LinkIds.{liveLinkIds, unlessLive, freeLinkId}
 use Rattle.board.proofs.Searches.{key-nowhere, key-somewhere, any-linkId}
 

@@ -15,8 +15,8 @@ use Rattle.board.specs.declared.Standing.the-variants.{Empty, Served, Jo
 use Rattle.board.specs.declared.Row.{Row}
 use Rattle.board.specs.Entries.{Connection, WithUser, WithPartner, Entry, entryOf, rowEntry, taken, occupied, linked, isJoined, linkIds}
 use Rattle.board.specs.Soundness.{validRow, validEntry, validParty, validStanding, sameLegs, sameReferences, sameLinkIds, answersTo, validPartner, partnered, soundEntries, soundRows}
-use Rattle.board.specs.RowTests.{fits, sharing, clashing, clash, answered, paired, takenRow, joinedRow, linkedRow}
-use Rattle.board.specs.Tallies.{tallyOf}
+use Rattle.board.specs.Code.RowTests.{fits, sharing, clashing, clash, answered, paired, takenRow, joinedRow, linkedRow}
+use Rattle.board.specs.Code.Tallies.{tallyOf}
 
 pub and-true : (b : Bool) → (b && true) ≡ b
 and-true true = refl

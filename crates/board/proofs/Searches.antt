@@ -25,7 +25,7 @@ use Rattle.board.specs.declared.finding.Key.{Key}
 use Rattle.board.specs.declared.finding.Key.the-variants as key
 use Rattle.board.specs.Entries.{Entry, Party, entryOf, rowEntry, taken, occupied, partyOf, calls, hasLeg, hasReference, linkIdIn, isLinkId, hasLinkId}
 use Rattle.board.specs.Lookup.{isCallOf, foundAt}
-use Rattle.board.specs.Keys.{linkOf, isEmpty, matchesKey}
+use Rattle.board.specs.Code.Keys.{linkOf, isEmpty, matchesKey}
 use Rattle.board.specs.Making.{emptyRow}
 use Rattle.board.specs.Changes.{enter, enterAt, full}
 

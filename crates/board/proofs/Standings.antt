@@ -15,7 +15,7 @@ use Rattle.board.specs.declared.Change.{Change}
 use Rattle.board.specs.declared.Change.the-variants.{SetState, SetAuxiliary, SetLinkId, Join, EndAlerting, Release, ReleasePair}
 use Rattle.board.specs.Lookup.{isCallOf}
 use Rattle.board.proofs.Rows.{and-true}
-use Rattle.board.specs.Named.{namedCall, subjectOf, concerns}
+use Rattle.board.specs.Code.Named.{namedCall, subjectOf, concerns}
 use Rattle.board.specs.Changes.{mapStanding, changedCall, withState, withAuxiliary, withLinkId, joined, answered, rowAfter}
 
 abbrev pub withStanding : Standing → Row → Row

@@ -2,12 +2,9 @@
 pub mod States
 pub mod Entries
 pub mod Soundness
-pub mod RowTests
 pub mod Lookup
-pub mod Tallies
 pub mod Counts
 pub mod Making
 pub mod Changes
 pub mod LinkIds
-pub mod Keys
-pub mod Named
+pub mod Code

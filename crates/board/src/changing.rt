@@ -3,7 +3,7 @@ ghost use mathlib.Core.Path.{_≡_};
 ghost use lib.Dec.{eqb};
 ghost use mathlib.Core.Bool.{_||_};
 ghost use Rattle.board.specs.States.{delivered};
-ghost use Rattle.board.specs.Named.{namedCall, subjectOf, concerns};
+ghost use Rattle.board.specs.Code.Named.{namedCall, subjectOf, concerns};
 ghost use Rattle.board.specs.Changes.{withState, withAuxiliary, withLinkId, mapStanding, changedCall};
 ghost use Rattle.board.specs.Changes.{joined, answered, emptiedIf, rowAfter, changedRows, enter, withRows};
 use crate::AuxiliaryState;

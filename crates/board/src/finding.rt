@@ -3,7 +3,7 @@ ghost use mathlib.Core.Path.{_≡_};
 ghost use Rattle.octets.specs.Lists.{placeFrom, find as findIn};
 ghost use Rattle.board.specs.Entries.{occupied, linkIdIn, isLinkId};
 ghost use Rattle.board.specs.Lookup.{isCallOf, foundAt, foundRow, foundAnswer, lookup as lookupRows};
-ghost use Rattle.board.specs.Keys.{linkOf, matchesKey, surveyOf};
+ghost use Rattle.board.specs.Code.Keys.{linkOf, matchesKey, surveyOf};
 ghost use Rattle.board.specs.LinkIds.{liveLinkIds, freeLinkId, optionalLinkId};
 use crate::Board;
 use crate::Found;

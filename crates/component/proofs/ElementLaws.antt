@@ -12,7 +12,7 @@ use Rattle.octets.proofs.Places.{rest}
 use Rattle.component.specs.declared.elements.FirstElement.{FirstElement}
 use Rattle.component.specs.declared.elements.FirstElement.the-variants as first
 use Rattle.component.specs.Elements.{Element, Bad, Whole, validHead, firstElement, constructed, wellFormed, siblings, wholeElements}
-use Rattle.component.specs.Readers.{elementOf, elementEnd, Found, checked}
+use Rattle.component.specs.Code.Readers.{elementOf, elementEnd, Found, checked}
 
 -- ---- parts of a slice
 drop-two : (n a b : ℕ) (s : List ℕ) → drop (n + 2) (a ∷ b ∷ s) ≡ drop n s

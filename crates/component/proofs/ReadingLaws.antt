@@ -23,7 +23,7 @@ use Rattle.component.specs.declared.values.Object.{Object}
 use Rattle.component.specs.declared.values.Object.the-variants as object
 use Rattle.component.specs.Elements.{Element, wholeElements}
 use Rattle.component.specs.Reading.{oneOrTwo, integerIn, objectIn, after, ectObject, invokeReading, framedReading, reading}
-use Rattle.component.specs.Readers.{Found, IntegerRead, ObjectRead}
+use Rattle.component.specs.Code.Readers.{Found, IntegerRead, ObjectRead}
 use Rattle.component.proofs.ElementLaws.{found, ends}
 use Rattle.octets.proofs.Places.{rest}
 

@@ -9,7 +9,7 @@ use Rattle.octets.specs.declared.IntegerOctets.{IntegerOctets}
 use Rattle.component.specs.declared.Component.{Component}
 use Rattle.component.specs.Answers.{element, integer}
 use Rattle.component.specs.Reading.{ectObject}
-use Rattle.component.specs.Writers.{blank, Grown, identified}
+use Rattle.component.specs.Code.Writers.{blank, Grown, identified}
 
 pub sets-append : (x y l : List ℕ) (i : ℕ) → sets (sets l i x) (i + length x) y ≡ sets l i (x ++ y)
 sets-append [] y l i =

@@ -1,6 +1,5 @@
 -- What components are read as, and the octets of the answers.
 pub mod Elements
 pub mod Reading
-pub mod Readers
 pub mod Answers
-pub mod Writers
+pub mod Code

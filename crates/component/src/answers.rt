@@ -11,7 +11,7 @@ ghost use lib.ListN.{length};
 ghost use Rattle.component.specs.declared.Answer.the-variants.{LinkIdResult};
 ghost use Rattle.component.specs.Answers.{element, integer, rejectOctets, answerOctets};
 ghost use Rattle.component.specs.Reading.{ectObject};
-ghost use Rattle.component.specs.Writers.{blank, Grown, identified};
+ghost use Rattle.component.specs.Code.Writers.{blank, Grown, identified};
 
 // No octets yet: all 32 are zero, and stay so beyond those put in.
 fn empty() -> Component

@@ -1,6 +1,6 @@
 // Elements: a tag octet, a length octet, and that many octets of contents.
 ghost use Rattle.component.specs.Elements.{firstElement, wholeElements};
-ghost use Rattle.component.specs.Readers.{Found, checked, areWhole};
+ghost use Rattle.component.specs.Code.Readers.{Found, checked, areWhole};
 ghost use mathlib.Core.Path.{_≡_};
 
 // The first element of some octets.

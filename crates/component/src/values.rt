@@ -3,7 +3,7 @@ use crate::elements::FirstElement;
 use crate::elements::first_element;
 use octets::IntegerOctets;
 ghost use Rattle.component.specs.Elements.{firstElement};
-ghost use Rattle.component.specs.Readers.{IntegerRead, ObjectRead};
+ghost use Rattle.component.specs.Code.Readers.{IntegerRead, ObjectRead};
 
 // The first element as an integer.
 pub enum Integer {

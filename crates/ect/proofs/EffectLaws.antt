@@ -9,7 +9,7 @@ use mathlib.Core.Option.{none, Option, some}
 use lib.IntN.{ℤ}
 use Rattle.board.specs.Changes.{withRows, enter, changedRows, full}
 use Rattle.board.specs.Entries.{entry, calls, taken, hasLeg, hasReference, foundParty, foundEntry}
-use Rattle.board.specs.Keys.{surveyOf}
+use Rattle.board.specs.Code.Keys.{surveyOf}
 use Rattle.board.specs.declared.finding.Survey.{Survey}
 use Rattle.board.proofs.Searches.{any-leg, any-reference}
 use Rattle.board.specs.Making.{emptyRow}
@@ -31,8 +31,8 @@ use Rattle.board.specs.declared.FoundEntry.the-variants as found-entry
 use Rattle.board.specs.declared.FoundParty.{FoundParty}
 use Rattle.board.specs.declared.FoundParty.the-variants as found-party
 use Rattle.component.specs.Reading.{reading}
-use Rattle.ect.specs.Effects.{Describes, Carries, Does, effect, openedRow, candidateBy, boardBy, partyFound, entryFound}
-use Rattle.replies.specs.Writing.{rendered, numberTold, transferRecords}
+use Rattle.ect.specs.Code.Effects.{Describes, Carries, Does, effect, openedRow, candidateBy, boardBy, partyFound, entryFound}
+use Rattle.replies.specs.Code.Writing.{rendered, numberTold, transferRecords}
 use Rattle.events.specs.EventRecords.{Request, request}
 use Rattle.events.specs.declared.Refusal.{Refusal}
 use Rattle.octets.specs.Lists.{any}

@@ -6,7 +6,7 @@ use mathlib.Core.List.{_∷_, List, []}
 use mathlib.Core.Option.{Option, none, some}
 use lib.Dec.{eqb}
 use Rattle.board.specs.Entries.{occupied}
-use Rattle.board.specs.Keys.{matchesKey}
+use Rattle.board.specs.Code.Keys.{matchesKey}
 use Rattle.board.specs.Lookup.{foundRow}
 use Rattle.board.specs.declared.Row.{Row}
 use Rattle.octets.specs.Lists.{find, orElse}

@@ -8,15 +8,16 @@ use lib.ListN.{length, drop}
 use Rattle.board.specs.Soundness.{sound}
 use Rattle.board.specs.declared.Board.{Board}
 use Rattle.ect.specs.Contract.{Shows, Steps, StepsTested, answerNumber, answerCount}
-use Rattle.ect.specs.Effects.{Carries, verdictOf, answerTo, boardBy}
+use Rattle.ect.specs.Code.Effects.{Carries, verdictOf, answerTo, boardBy}
 use Rattle.replies.specs.declared.Out.{Out}
-use Rattle.replies.specs.Writing.{rendered, written}
+use Rattle.replies.specs.Code.Writing.{rendered, written}
 use Rattle.replies.proofs.WritingLaws.{rendered-len, rendered-written, rendered-fits}
 use Rattle.ect.specs.declared.StepAnswer.{StepAnswer}
 use Rattle.ect.specs.declared.StepAnswer.the-variants.{Refused}
 use Rattle.ect.specs.declared.Stepped.{Stepped}
 use Rattle.events.specs.declared.Refusal.{Refusal}
-use Rattle.rules.specs.Checks.{refusalNumber, Refuse, Decision, OpenLeg, SetState, SetAuxiliary, ReleaseLeg, ServeCall, EndAlerting, returnedBy}
+use Rattle.rules.specs.Checks.{Refuse, Decision, OpenLeg, SetState, SetAuxiliary, ReleaseLeg, ServeCall, EndAlerting, returnedBy}
+use Rattle.events.specs.Refusals.{refusalNumber}
 use Rattle.rules.specs.Replies.{DropOrder, ReplyRecord, octets, NamedFirst}
 use Rattle.rules.specs.Step.{replies, step, stepTested, refused, Outcome, done, decision}
 use Rattle.events.specs.declared.Refusal.the-variants as refusal

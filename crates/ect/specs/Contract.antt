@@ -5,7 +5,7 @@ use mathlib.Core.Bool.{Bool}
 use mathlib.Core.List.{List, _++_}
 use lib.ListN.{length, drop}
 use Rattle.board.specs.declared.Board.{Board}
-use Rattle.rules.specs.Checks.{refusalNumber}
+use Rattle.events.specs.Refusals.{refusalNumber}
 use Rattle.rules.specs.Replies.{DropOrder, octets}
 use Rattle.rules.specs.Step.{Outcome, step, stepTested}
 use Rattle.ect.specs.declared.StepAnswer.{StepAnswer}

@@ -1,3 +1,3 @@
-pub mod Effects
 pub mod Contract
 pub mod CallHistory
+pub mod Code

@@ -46,10 +46,10 @@ ghost use Rattle.rules.specs.Replies.{numberAt};
 ghost use Rattle.rules.specs.Checks.{Refuse, ServeCall, firstState, mayProgress, mayHold};
 ghost use Rattle.rules.specs.Checks.{decideProgress, decideHold, decideRelease, decideAnswer};
 ghost use Rattle.rules.specs.Step.{decision};
-ghost use Rattle.replies.specs.Writing.{numberTold};
+ghost use Rattle.replies.specs.Code.Writing.{numberTold};
 ghost use Rattle.board.specs.Making.{emptyRow};
-ghost use Rattle.ect.specs.Effects.{Describes, Carries, Does, effect, openedRow, openOn, facilityOn};
-ghost use Rattle.ect.specs.Effects.{partyFound, entryFound, candidateBy, boardBy};
+ghost use Rattle.ect.specs.Code.Effects.{Describes, Carries, Does, effect, openedRow, openOn, facilityOn};
+ghost use Rattle.ect.specs.Code.Effects.{partyFound, entryFound, candidateBy, boardBy};
 
 pub enum Verdict {
     Accepted,

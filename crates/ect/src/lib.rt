@@ -10,9 +10,9 @@ ghost use Prim.Native.Nat.{_≤_};
 ghost use mathlib.Core.Path.{_≡_};
 ghost use mathlib.Core.List.{_++_};
 ghost use lib.ListN.{length, drop};
-ghost use Rattle.replies.specs.Writing.{written};
+ghost use Rattle.replies.specs.Code.Writing.{written};
 ghost use Rattle.ect.specs.Contract.{Steps, StepsTested};
-ghost use Rattle.ect.specs.Effects.{answerTo};
+ghost use Rattle.ect.specs.Code.Effects.{answerTo};
 
 mod digits;
 mod effects;

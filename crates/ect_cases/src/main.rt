@@ -3,28 +3,12 @@ use board::Board;
 use board::Options;
 use ect::StepAnswer;
 use ect::Stepped;
-use events::Refusal;
+use events::refusal_number;
 use show::decimal;
 use show::text;
 
 mod show;
 mod transfer;
-
-fn number(refusal: Refusal) -> u64 {
-    match refusal {
-        Refusal::BufferTooSmall => 1,
-        Refusal::UnsoundBoard => 2,
-        Refusal::WrongLength => 3,
-        Refusal::UnknownKind => 4,
-        Refusal::FieldOutOfRange => 5,
-        Refusal::LegOnBoard => 6,
-        Refusal::ReferenceInUse => 7,
-        Refusal::NoEmptyRow => 8,
-        Refusal::NoSuchCall => 9,
-        Refusal::NoSuchLeg => 10,
-        Refusal::NotPermitted => 11,
-    }
-}
 
 // Prints what a step returned, and hands its board on.
 fn report(words: &[u8], stepped: Stepped) -> Board {
@@ -37,7 +21,7 @@ fn report(words: &[u8], stepped: Stepped) -> Board {
         }
         StepAnswer::Refused(refusal) => {
             text(b": ");
-            decimal(number(refusal));
+            decimal(refusal_number(refusal) as u64);
         }
     }
     text(b"\n");

@@ -4,6 +4,7 @@ use crate::show::hex;
 use crate::show::text;
 use board::Board;
 use ect::StepAnswer;
+use events::refusal_number;
 
 // The front of the buffer is to be sent.
 fn send(n: usize, reply: &[u8]) {
@@ -25,7 +26,7 @@ fn event(board: Board, octets: &[u8]) -> Board {
         }
         StepAnswer::Refused(refusal) => {
             text(b"refused ");
-            decimal(crate::number(refusal));
+            decimal(refusal_number(refusal) as u64);
             text(b"\n");
         }
     }

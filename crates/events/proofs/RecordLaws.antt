@@ -26,7 +26,7 @@ use Rattle.events.specs.declared.records.RequestHead.{RequestHead}
 use Rattle.events.specs.declared.records.RequestHead.the-variants as head
 use Rattle.events.specs.EventRecords.{Request, Malformed, Open, Progress, Hold, Release, Facility, Answer, field, directionOf}
 use Rattle.events.specs.EventRecords.{openBody, progressBody, holdBody, facilityBody, ranged, sized, ofKind, request}
-use Rattle.events.specs.RecordValues.{isDigit, requestOf, RecordRead}
+use Rattle.events.specs.Code.RecordValues.{isDigit, requestOf, RecordRead}
 
 -- ---- a test of each octet, from place i on
 module _ (p : ℕ → Bool) (s : List ℕ) (i : ℕ) where

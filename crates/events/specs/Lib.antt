@@ -1,2 +1,3 @@
+pub mod Refusals
 pub mod EventRecords
-pub mod RecordValues
+pub mod Code

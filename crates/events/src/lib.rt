@@ -1,4 +1,7 @@
-// Event records: what the octets of an event ask for, or why they are no record.
+// Event records: what the octets of an event ask for, or why they are no record; and the numbers of refusals.
+ghost use mathlib.Core.Path.{_≡_};
+ghost use Rattle.events.specs.Refusals.{refusalNumber};
+
 pub mod records;
 
 // Why an event is refused, in the order of the checks; document 01 numbers them from 1 to 11.
@@ -14,4 +17,23 @@ pub enum Refusal {
     NoSuchCall,
     NoSuchLeg,
     NotPermitted,
+}
+
+// The number that a refusal is returned as.
+pub fn refusal_number(refusal: Refusal) -> u8
+    ensures { λ r. ⌜ r ≡ refusalNumber refusal ⌝ }
+{
+    match refusal {
+        Refusal::BufferTooSmall => 1,
+        Refusal::UnsoundBoard => 2,
+        Refusal::WrongLength => 3,
+        Refusal::UnknownKind => 4,
+        Refusal::FieldOutOfRange => 5,
+        Refusal::LegOnBoard => 6,
+        Refusal::ReferenceInUse => 7,
+        Refusal::NoEmptyRow => 8,
+        Refusal::NoSuchCall => 9,
+        Refusal::NoSuchLeg => 10,
+        Refusal::NotPermitted => 11,
+    }
 }

@@ -1,8 +1,7 @@
 // Records of a log: how long each is, and what the component returned for it as a number and a count of octets.
 use ect::StepAnswer;
-use events::Refusal;
+use events::refusal_number;
 ghost use mathlib.Core.Path.{_≡_};
-ghost use Rattle.rules.specs.Checks.{refusalNumber};
 ghost use Rattle.ect.specs.Contract.{answerNumber, answerCount};
 ghost use Rattle.playing.specs.Records.{recordLength};
 
@@ -29,24 +28,6 @@ pub fn record_length(kind: u8) -> usize
         return 5;
     }
     1
-}
-
-fn refusal_number(refusal: Refusal) -> u8
-    ensures { λ r. ⌜ r ≡ refusalNumber refusal ⌝ }
-{
-    match refusal {
-        Refusal::BufferTooSmall => 1,
-        Refusal::UnsoundBoard => 2,
-        Refusal::WrongLength => 3,
-        Refusal::UnknownKind => 4,
-        Refusal::FieldOutOfRange => 5,
-        Refusal::LegOnBoard => 6,
-        Refusal::ReferenceInUse => 7,
-        Refusal::NoEmptyRow => 8,
-        Refusal::NoSuchCall => 9,
-        Refusal::NoSuchLeg => 10,
-        Refusal::NotPermitted => 11,
-    }
 }
 
 pub fn returned(answer: StepAnswer) -> u8

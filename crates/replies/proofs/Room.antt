@@ -11,7 +11,7 @@ use Rattle.component.specs.declared.Answer.the-variants as answer
 use Rattle.rules.specs.Replies.{Number, Reply, Tell, Drop, Gone, NamedFirst, octets}
 use Rattle.rules.proofs.Room.{reply-length, one-length, tells-length, transfer-length}
 use Rattle.replies.specs.declared.FarParty.{FarParty}
-use Rattle.replies.specs.Writing.{numberTold, transferTells, transferRecords}
+use Rattle.replies.specs.Code.Writing.{numberTold, transferTells, transferRecords}
 
 pub reply-room : (r : ℕ) (a : Answer) → length (octets (Reply r a ∷ [])) ≡ 36
 reply-room r a = omega (arith, one-length (Reply r a), reply-length r a)

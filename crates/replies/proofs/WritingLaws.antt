@@ -9,7 +9,7 @@ use Rattle.component.specs.declared.Answer.{Answer}
 use Rattle.component.proofs.WriterLaws.{sets-append, drop-zeros}
 use Rattle.rules.specs.Replies.{Number, ReplyRecord, Reply, Tell, Drop, Gone, recordOctets, octets}
 use Rattle.replies.specs.declared.Out.{Out}
-use Rattle.replies.specs.Writing.{rendered, written, blank, appended, Grown, Adds}
+use Rattle.replies.specs.Code.Writing.{rendered, written, blank, appended, Grown, Adds}
 use Rattle.replies.proofs.Room.{reply-room, tell-room, drop-room, gone-room}
 
 pub join : {a b c : Out} {x y : List ℕ} → Grown a b x → Grown b c y → Grown a c (x ++ y)

@@ -12,7 +12,7 @@ ghost use lib.ListN.{length};
 ghost use Rattle.octets.specs.Numbers.{four};
 ghost use Rattle.rules.specs.Replies.{Reply, Tell, Drop, Gone, markOnly, numberOfRow, told};
 ghost use Rattle.rules.specs.Replies.{facility, transferredActive};
-ghost use Rattle.replies.specs.Writing.{Grown, Adds, rendered, numberTold, transferRecords};
+ghost use Rattle.replies.specs.Code.Writing.{Grown, Adds, rendered, numberTold, transferRecords};
 
 const FACILITY: u8 = 0;
 

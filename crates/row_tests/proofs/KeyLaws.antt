@@ -19,8 +19,8 @@ use Rattle.board.specs.declared.Entry.{Entry}
 use Rattle.board.specs.declared.Row.{Row}
 use Rattle.board.specs.Entries.{entryOf, occupied, linkIdIn}
 use Rattle.board.specs.Soundness.{answersTo, sameLinkIdsIn}
-use Rattle.board.specs.RowTests.{clashing, clash, answered, paired, takenRow}
-use Rattle.row_tests.specs.RowKeys.{linkNumber, callKey, keyOf, bothSame, joint}
+use Rattle.board.specs.Code.RowTests.{clashing, clash, answered, paired, takenRow}
+use Rattle.row_tests.specs.Code.RowKeys.{linkNumber, callKey, keyOf, bothSame, joint}
 
 -- ---- the number of a LinkId, from its bits
 

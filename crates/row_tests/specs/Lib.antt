@@ -1,1 +1,1 @@
-pub mod RowKeys
+pub mod Code

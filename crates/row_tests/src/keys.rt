@@ -1,7 +1,7 @@
 // What a row is compared by with other rows. The board gathers these numbers in columns, and of lent rows two are held
 // against each other: what has to be distinct, and who is whose partner, is decided here for both.
 ghost use mathlib.Core.Path.{_≡_};
-ghost use Rattle.row_tests.specs.RowKeys.{linkNumber, callKey, keyOf, joint, answersJoint};
+ghost use Rattle.row_tests.specs.Code.RowKeys.{linkNumber, callKey, keyOf, joint, answersJoint};
 use board::Call;
 use board::OptionalLinkId;
 use board::Row;

@@ -11,15 +11,15 @@ use Rattle.board.specs.declared.Row.{Row}
 use Rattle.board.specs.declared.Tally.{Tally}
 use Rattle.board.specs.Soundness.{soundRows}
 use Rattle.board.specs.Counts.{counts, countedAnswer, legs, links}
-use Rattle.board.specs.Tallies.{tallyOf}
+use Rattle.board.specs.Code.Tallies.{tallyOf}
 use Rattle.board.specs.Making.{emptyRow}
-use Rattle.board.specs.RowTests.{fits, clash, paired, takenRow, joinedRow, linkedRow}
+use Rattle.board.specs.Code.RowTests.{fits, clash, paired, takenRow, joinedRow, linkedRow}
 use Rattle.board.proofs.Answers.{counts-answer}
 use Rattle.board.proofs.Rows.{sound-by-rows, tally-all}
 use Rattle.rows.specs.declared.Placed.{Placed}
 use Rattle.rows.specs.declared.Met.{Met}
 use Rattle.rows.specs.declared.Sums.{Sums}
-use Rattle.rows.specs.Steps.{among, added, counted}
+use Rattle.rows.specs.Code.Steps.{among, added, counted}
 
 -- the rules on these of the rows, the number of LinkIds apart
 abbrev obeying : List Row → List Row → Bool

@@ -1,2 +1,2 @@
 -- What the functions over one row at a time have to do with the rows.
-pub mod Steps
+pub mod Code

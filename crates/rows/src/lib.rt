@@ -4,7 +4,7 @@ ghost use mathlib.Core.Path.{_≡_};
 ghost use Prim.Native.Nat.{_+_, _≤_, _<_, _^_};
 ghost use Rattle.board.specs.Lookup.{foundAnswer, lookup as lookupRows};
 ghost use Rattle.board.specs.Counts.{countedAnswer, counts};
-ghost use Rattle.rows.specs.Steps.{seen, meeting, among, added, counted};
+ghost use Rattle.rows.specs.Code.Steps.{seen, meeting, among, added, counted};
 use board::Counted;
 use board::Found;
 use board::MOST_LINK_IDS;

@@ -17,7 +17,8 @@ use Rattle.rules.proofs.Kept.{kept}
 use Rattle.rules.proofs.Order.{decide-perm}
 use Rattle.rules.proofs.Rows.{full-is, candidate-same, after-perm, rows-length, rows-right, Fine, fine, view}
 use Rattle.rules.specs.Book.{Book, bookRules, bookAfter, candidateMoves, entriesAfter, bookDecision, freshBook, emptyBook, bookStep}
-use Rattle.rules.specs.Checks.{decide, Decision, returnedBy, Refuse, refusalNumber}
+use Rattle.rules.specs.Checks.{decide, Decision, returnedBy, Refuse}
+use Rattle.events.specs.Refusals.{refusalNumber}
 use Rattle.events.specs.EventRecords.{request, ranged, Request, inRange, Malformed, sized, openBody, progressBody, field, holdBody, Release, facilityBody, Answer}
 use Rattle.rules.specs.History.{returns, Event, stepped, boardAt, bookAt, bookReturns}
 use Rattle.rules.specs.Replies.{octets}

@@ -23,7 +23,8 @@ use Rattle.component.specs.declared.Operation.{Operation}
 use Rattle.component.specs.declared.Operation.the-variants.{EctExecute, ExplicitEctExecute, EctLinkIdRequest}
 use Rattle.component.specs.declared.Reading.{Reading}
 use Rattle.component.specs.declared.Reading.the-variants.{Ignored, Rejected, Invoked}
-use Rattle.rules.specs.Checks.{decide, refusalNumber, Decision, Refuse, OpenLeg, opened, named, mayProgress, SetState, mayHold, SetAuxiliary, ReleaseLeg, ServeCall, EndAlerting, decideOpen, decideProgress, decideHold, entryAt, decideRelease, decideFacility, isNamed, decideAlerting, decideAnswer}
+use Rattle.rules.specs.Checks.{decide, Decision, Refuse, OpenLeg, opened, named, mayProgress, SetState, mayHold, SetAuxiliary, ReleaseLeg, ServeCall, EndAlerting, decideOpen, decideProgress, decideHold, entryAt, decideRelease, decideFacility, isNamed, decideAlerting, decideAnswer}
+use Rattle.events.specs.Refusals.{refusalNumber}
 use Rattle.events.specs.EventRecords.{Answer, Request, Open, Progress, Hold, Release, Facility, Malformed}
 use Rattle.rules.specs.Serving.{Service, Silent, Respond, assign, live, AssignLinkId, partnerFor, Transfer, execute, partyLinkId, executeExplicitly, error, newLinkId, linkIdRequest, perform, serve}
 use Rattle.rules.specs.Situations.{call}

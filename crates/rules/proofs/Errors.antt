@@ -13,7 +13,8 @@ use Rattle.board.specs.States.{delivered}
 use Rattle.board.specs.declared.Board.{Board}
 use Rattle.component.specs.Answers.{answerOctets}
 use Rattle.rules.proofs.Rows.{fine}
-use Rattle.rules.specs.Checks.{ServeCall, Decision, Refuse, OpenLeg, SetState, SetAuxiliary, ReleaseLeg, EndAlerting, returnedBy, refusalNumber}
+use Rattle.rules.specs.Checks.{ServeCall, Decision, Refuse, OpenLeg, SetState, SetAuxiliary, ReleaseLeg, EndAlerting, returnedBy}
+use Rattle.events.specs.Refusals.{refusalNumber}
 use Rattle.rules.specs.History.{Event, stepped}
 use Rattle.rules.specs.Replies.{told, Number, errorRecord, Drop, DropOrder, tells, numberAt, drops, NamedFirst, OtherFirst, octets, errorTag, Reply, ReplyRecord, errorOctets, Tell, Gone}
 use Rattle.rules.specs.Serving.{Service, Silent, Respond, AssignLinkId, Transfer}

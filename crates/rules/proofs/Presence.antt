@@ -22,7 +22,8 @@ use Rattle.rules.proofs.Agreement.{next, Together}
 use Rattle.rules.proofs.Decided.{refusal-not-0, Decided, refuses, opens-leg, sets-state, sets-auxiliary, releases, serves, ends-alerting, decided}
 use Rattle.rules.proofs.Kept.{mate-of}
 use Rattle.rules.specs.Book.{Book, stays, serviceEntries, mapConnection, changeCall, joinLegs, entriesAfter, endAlerting, bookStep, bookAfter, bookDecision, bookRules}
-use Rattle.rules.specs.Checks.{opened, Decision, returnedBy, refusalNumber, Refuse}
+use Rattle.rules.specs.Checks.{opened, Decision, returnedBy, Refuse}
+use Rattle.events.specs.Refusals.{refusalNumber}
 use Rattle.events.specs.EventRecords.{request, Request}
 use Rattle.rules.specs.History.{Event, accepts, opensLeg, endsLeg, bookAt, booked, joinedWith}
 use Rattle.rules.specs.Replies.{octets}

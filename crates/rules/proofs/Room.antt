@@ -20,7 +20,8 @@ use Rattle.board.specs.declared.Standing.the-variants.{Empty, Served, Joined}
 use Rattle.component.proofs.Length.{answer-length}
 use Rattle.component.specs.Answers.{answerOctets}
 use Rattle.component.specs.declared.Answer.the-variants.{LinkIdResult, Result}
-use Rattle.rules.specs.Checks.{Decision, Refuse, OpenLeg, SetState, SetAuxiliary, ReleaseLeg, ServeCall, EndAlerting, refusalNumber}
+use Rattle.rules.specs.Checks.{Decision, Refuse, OpenLeg, SetState, SetAuxiliary, ReleaseLeg, ServeCall, EndAlerting}
+use Rattle.events.specs.Refusals.{refusalNumber}
 use Rattle.rules.specs.Replies.{recordOctets, Reply, numberAt, Number, markOnly, numberOfRow, told, ReplyRecord, octets, drops, DropOrder, NamedFirst, OtherFirst, tells, answerTold}
 use Rattle.rules.specs.Serving.{Service, Silent, Respond, AssignLinkId, Transfer}
 use Rattle.rules.specs.Step.{serviceReplies, releaseReplies, replies, step, stepTested, Outcome, refused, done, decision}

@@ -15,7 +15,7 @@ use Rattle.events.specs.declared.Refusal.the-variants.{BufferTooSmall, UnsoundB
 use Rattle.rules.proofs.Agreement.{Together, sound-together, next}
 use Rattle.rules.proofs.Rows.{rows-length}
 use Rattle.rules.specs.Book.{Book}
-use Rattle.rules.specs.Checks.{refusalNumber}
+use Rattle.events.specs.Refusals.{refusalNumber}
 use Rattle.rules.specs.Replies.{DropOrder}
 use Rattle.rules.specs.Step.{Outcome, boardAfter, decision, refused, step, stepTested, done}
 

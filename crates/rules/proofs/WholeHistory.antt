@@ -18,7 +18,8 @@ use Rattle.rules.proofs.Errors.{untouched-step, unharmed, octets-error}
 use Rattle.rules.proofs.Partner.{has-row, Shape, partnerOf, shaped-list, bookAt-append, opened-next, shaped-next, call-stays, joined-stays, joins-some, still-there, alive-stays, shape-there, partner-rows, call-row}
 use Rattle.rules.proofs.Presence.{nil-is-no-split, LivesIn, lives, opensAt, endsAt, lives-is, lives-from, Unended, seen-next, together-sound, lives-to}
 use Rattle.rules.specs.Book.{Book, bookAfter, entriesAfter, candidateMoves, bookStep, bookDecision, freshBook, emptyBook}
-use Rattle.rules.specs.Checks.{Decision, returnedBy, Refuse, OpenLeg, SetState, SetAuxiliary, ReleaseLeg, ServeCall, EndAlerting, opened, refusalNumber}
+use Rattle.rules.specs.Checks.{Decision, returnedBy, Refuse, OpenLeg, SetState, SetAuxiliary, ReleaseLeg, ServeCall, EndAlerting, opened}
+use Rattle.events.specs.Refusals.{refusalNumber}
 use Rattle.events.specs.EventRecords.{request}
 use Rattle.rules.specs.History.{history, booked, Event, accepts, stepped, bookAt, boardAt, bookReturns, accepted, opens, ends, Lives, endsLeg, Agree, transferOf, joinsTo, onBoard, Partners, HasRow, Demand3}
 use Rattle.rules.specs.Replies.{octets, DropOrder}

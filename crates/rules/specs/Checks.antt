@@ -25,6 +25,7 @@ use Rattle.board.specs.declared.Party.{Party}
 use Rattle.board.specs.Entries.{calls, hasLeg, hasReference}
 use Rattle.events.specs.declared.Refusal.{Refusal}
 use Rattle.events.specs.declared.Refusal.the-variants as refusal
+use Rattle.events.specs.Refusals.{refusalNumber}
 use Rattle.events.specs.EventRecords.{Request, Malformed, Open, Progress, Hold, Release, Facility, Answer}
 use Rattle.rules.specs.Serving.{Service, serve}
 
@@ -145,20 +146,7 @@ decide o z full es (Release l) = decideRelease (entryAt l es)
 decide o z full es (Facility r c) = decideFacility o z es c (named r es)
 decide o z full es (Answer l) = decideAnswer l (entryAt l es)
 
--- the numbers of the table of refusals; "Accepted events return 0"
-abbrev pub refusalNumber : Refusal → ℕ
-refusalNumber refusal.BufferTooSmall = 1
-refusalNumber refusal.UnsoundBoard = 2
-refusalNumber refusal.WrongLength = 3
-refusalNumber refusal.UnknownKind = 4
-refusalNumber refusal.FieldOutOfRange = 5
-refusalNumber refusal.LegOnBoard = 6
-refusalNumber refusal.ReferenceInUse = 7
-refusalNumber refusal.NoEmptyRow = 8
-refusalNumber refusal.NoSuchCall = 9
-refusalNumber refusal.NoSuchLeg = 10
-refusalNumber refusal.NotPermitted = 11
-
+-- "Accepted events return 0"
 abbrev pub returnedBy : Decision → ℕ
 returnedBy (Refuse c) = refusalNumber c
 returnedBy (OpenLeg l c p n ds) = 0

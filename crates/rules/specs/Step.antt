@@ -22,7 +22,8 @@ use Rattle.events.specs.declared.Refusal.{Refusal}
 use Rattle.events.specs.declared.Refusal.the-variants.{BufferTooSmall, UnsoundBoard}
 use Rattle.events.specs.EventRecords.{request}
 use Rattle.rules.specs.Serving.{Service, Silent, Respond, AssignLinkId, Transfer}
-use Rattle.rules.specs.Checks.{Decision, Refuse, OpenLeg, SetState, SetAuxiliary, ReleaseLeg, ServeCall, EndAlerting, decide, refusalNumber, returnedBy}
+use Rattle.rules.specs.Checks.{Decision, Refuse, OpenLeg, SetState, SetAuxiliary, ReleaseLeg, ServeCall, EndAlerting, decide, returnedBy}
+use Rattle.events.specs.Refusals.{refusalNumber}
 use Rattle.rules.specs.Replies.{ReplyRecord, Reply, Tell, Drop, Gone, DropOrder, tells, drops, answerTold}
 
 -- ---- the rows afterwards

@@ -13,7 +13,7 @@ use Rattle.board.specs.declared.Call.{Call}
 use Rattle.board.specs.declared.Party.{Party}
 use Rattle.board.specs.declared.Row.{Row}
 use Rattle.serving.proofs.PartyLaws.{noRow, party-in}
-use Rattle.serving.specs.Parties.{partyIn}
+use Rattle.serving.specs.Code.Parties.{partyIn}
 use Rattle.octets.proofs.Lists.{true-not-false, left, all-by, keep-mem}
 use Rattle.octets.proofs.Places.{place-cons, place-lowest}
 use Rattle.octets.specs.Lists.{all, keep, pick, consIf, consOpt, only, placeFrom, orElse}

@@ -8,7 +8,7 @@ use mathlib.Core.Option.{none, Option, some}
 use lib.ListN.{getD}
 use Rattle.board.proofs.Searches.{rowParty, elementAt, find-at, entry-by-leg}
 use Rattle.board.specs.Entries.{partyOf, entryOf, calls, taken, foundParty, foundEntry, rowEntry}
-use Rattle.board.specs.Keys.{matchesKey}
+use Rattle.board.specs.Code.Keys.{matchesKey}
 use Rattle.board.specs.Lookup.{foundRow}
 use Rattle.board.specs.declared.Entry.{Entry}
 use Rattle.board.specs.declared.Party.{Party}
@@ -16,7 +16,7 @@ use Rattle.board.specs.declared.Row.{Row}
 use Rattle.board.specs.declared.Standing.{Standing}
 use Rattle.board.specs.declared.Standing.the-variants.{Empty, Served, Joined}
 use Rattle.rules.specs.Checks.{entryAt}
-use Rattle.serving.specs.Parties.{partyIn, standingParty}
+use Rattle.serving.specs.Code.Parties.{partyIn, standingParty}
 use Rattle.octets.proofs.Places.{pickOpt, pickAt}
 use Rattle.octets.specs.Lists.{find, placeFrom}
 use Rattle.board.specs.declared.finding.Key.{Key}

@@ -12,7 +12,7 @@ use lib.IntN.{ℤ}
 use Rattle.board.specs.Counts.{links}
 use Rattle.board.specs.Entries.{linkIdOf, calls, partyOf, linkIdIn, taken}
 use Rattle.board.specs.LinkIds.{freeLinkId, liveLinkIds, optionalLinkId}
-use Rattle.board.specs.Tallies.{tallyOf}
+use Rattle.board.specs.Code.Tallies.{tallyOf}
 use Rattle.board.specs.declared.Connection.{Connection}
 use Rattle.board.specs.declared.Connection.the-variants.{WithUser, WithPartner}
 use Rattle.board.specs.declared.Entry.{Entry}

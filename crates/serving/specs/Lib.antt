@@ -1,1 +1,1 @@
-pub mod Parties
+pub mod Code

@@ -20,7 +20,7 @@ ghost use lib.ListN.{length};
 ghost use Rattle.octets.specs.Lists.{only};
 ghost use Rattle.rules.specs.Serving.{error, live, newLinkId, linkIdRequest, partyLinkId};
 ghost use Rattle.rules.specs.Serving.{execute as executed, executeExplicitly, serve as served};
-ghost use Rattle.serving.specs.Parties.{partiesOf, pairedOn, linkedOn, performedOn, freeIn};
+ghost use Rattle.serving.specs.Code.Parties.{partiesOf, pairedOn, linkedOn, performedOn, freeIn};
 
 mod pairing;
 pub mod parties;

@@ -17,7 +17,7 @@ ghost use Rattle.board.specs.States.{active, delivered, idle, held, outgoing};
 ghost use Rattle.board.specs.Entries.{foundParty};
 ghost use Rattle.rules.specs.Pairing.{heldWithIdle, activeWithDelivered, verdict as verdictOf, pairs as pair};
 ghost use Rattle.rules.specs.Serving.{partnerFor};
-ghost use Rattle.serving.specs.Parties.{hasPartner, partiesOf};
+ghost use Rattle.serving.specs.Code.Parties.{hasPartner, partiesOf};
 
 // The numbers of ETS 300 102-1.
 fn state_number(state: CallState) -> u8

@@ -16,7 +16,7 @@ ghost use Rattle.octets.specs.Lists.{find as findIn};
 ghost use Rattle.board.specs.Entries.{rowEntry, foundEntry, foundParty};
 ghost use Rattle.rules.specs.Checks.{named as namedIn, entryAt};
 ghost use Rattle.rules.specs.Serving.{hasLinkId};
-ghost use Rattle.serving.specs.Parties.{partyIn, entriesOf, partiesOf};
+ghost use Rattle.serving.specs.Code.Parties.{partyIn, entriesOf, partiesOf};
 
 // The party of a row with a call.
 pub fn party_of(row: Row) -> FoundParty

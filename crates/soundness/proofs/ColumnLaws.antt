@@ -25,8 +25,8 @@ use Rattle.board.specs.declared.Entry.{Entry}
 use Rattle.board.specs.declared.Connection.the-variants.{WithPartner}
 use Rattle.board.specs.Entries.{entry, entryOf, rowEntry, taken, occupied, linkIdIn}
 use Rattle.board.specs.Soundness.{answersTo, partnered}
-use Rattle.row_tests.specs.RowKeys.{linkNumber, callKey, keyOf, joint}
-use Rattle.soundness.specs.Columns.{legIn, referenceIn, linkIn, ownIn, partnerIn, alertingIn, joints}
+use Rattle.row_tests.specs.Code.RowKeys.{linkNumber, callKey, keyOf, joint}
+use Rattle.soundness.specs.Code.Columns.{legIn, referenceIn, linkIn, ownIn, partnerIn, alertingIn, joints}
 
 -- ---- a column that is being read: its first n numbers are what f finds in the entries of the first i rows
 

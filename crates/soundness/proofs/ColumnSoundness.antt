@@ -17,11 +17,11 @@ use Rattle.board.specs.declared.Row.{Row}
 use Rattle.board.specs.declared.Entry.{Entry}
 use Rattle.board.specs.Entries.{entry, taken, linkIdOf, linked, present, isJoined, linkIds}
 use Rattle.board.specs.Soundness.{validRow, validEntry, sameNumbers, sameReferences, sameLinkIdsIn, sameLinkIds, answersTo, validPartner, partnered, soundEntries, soundRows}
-use Rattle.board.specs.RowTests.{fits}
+use Rattle.board.specs.Code.RowTests.{fits}
 use Rattle.board.proofs.Rows.{fits-all}
-use Rattle.row_tests.specs.RowKeys.{linkNumber}
+use Rattle.row_tests.specs.Code.RowKeys.{linkNumber}
 use Rattle.row_tests.proofs.KeyLaws.{same-number, bit-one}
-use Rattle.soundness.specs.Columns.{legIn, referenceIn, linkIn, joinedLeg, ownIn, partnerOf, partnerIn, alertingOf, alertingIn, joints, allPartnered}
+use Rattle.soundness.specs.Code.Columns.{legIn, referenceIn, linkIn, joinedLeg, ownIn, partnerOf, partnerIn, alertingOf, alertingIn, joints, allPartnered}
 
 -- ---- distinctness
 

@@ -14,11 +14,11 @@ use Rattle.board.specs.declared.Standing.{Standing}
 use Rattle.board.specs.declared.Row.{Row}
 use Rattle.board.specs.Entries.{entryOf, rowEntry, taken}
 use Rattle.board.specs.Soundness.{soundRows}
-use Rattle.board.specs.RowTests.{fits, takenRow}
+use Rattle.board.specs.Code.RowTests.{fits, takenRow}
 use Rattle.board.proofs.Rows.{empty-standing}
 use Rattle.row_tests.specs.declared.keys.RowKey.{RowKey}
-use Rattle.row_tests.specs.RowKeys.{keyOf}
-use Rattle.soundness.specs.Columns.{legIn, referenceIn, linkIn, ownIn, partnerIn, alertingIn, joints, allPartnered}
+use Rattle.row_tests.specs.Code.RowKeys.{keyOf}
+use Rattle.soundness.specs.Code.Columns.{legIn, referenceIn, linkIn, ownIn, partnerIn, alertingIn, joints, allPartnered}
 use Rattle.soundness.proofs.ColumnLaws.{Column, column-start, column-skip, column-step, column-end, gives-leg, gives-reference, gives-link, gives-own, gives-partner, gives-alerting}
 use Rattle.soundness.proofs.ColumnSoundness.{sound-by-columns}
 

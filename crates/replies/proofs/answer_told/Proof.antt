@@ -6,7 +6,7 @@ use mathlib.Core.Path.{_≡_}
 use native.Mathlib.Omega.{arith}
 use lib.ListN.{length}
 use Rattle.rules.specs.Replies.{facility, transferredActive}
-use Rattle.replies.specs.Writing.{numberTold}
+use Rattle.replies.specs.Code.Writing.{numberTold}
 use Rattle.replies.proofs.Room.{tell-room}
 use Rattle.replies.proofs.WritingLaws.{empty, renders}
 

@@ -5,7 +5,7 @@ use mathlib.Core.Path.{_≡_, ap}
 use mathlib.Core.Bool.{Bool, true, false}
 use Rattle.octets.specs.Tests.{bit}
 use Rattle.board.specs.declared.Tally.{Tally}
-use Rattle.board.specs.RowTests.{takenRow, joinedRow, linkedRow}
+use Rattle.board.specs.Code.RowTests.{takenRow, joinedRow, linkedRow}
 use Rattle.rows.proofs.add.Statement.{statement}
 use Rattle.rows.proofs.add.Tie as tie
 

@@ -34,7 +34,7 @@ use Rattle.board.proofs.Row as T
 use Rattle.board.proofs.Row.Laws as T′
 use Rattle.rows.specs.declared.Placed.{Placed}
 use Rattle.rows.specs.declared.Sums.{Sums}
-use Rattle.rows.specs.Steps.{among, added, counted}
+use Rattle.rows.specs.Code.Steps.{among, added, counted}
 use Rattle.rows.proofs.Placed as K
 use Rattle.rows.proofs.Placed.Laws as K′
 use Rattle.rows.proofs.Sums as S

@@ -18,7 +18,7 @@ use Rattle.board.specs.Lookup.{hasCallOf, foundAt, foundAnswer, lookup as looku
 use Rattle.board.proofs.Answers.{lookup-answer}
 use Rattle.board.proofs.Found as S
 use Rattle.board.proofs.Found.Laws as S′
-use Rattle.rows.specs.Steps.{seen}
+use Rattle.rows.specs.Code.Steps.{seen}
 use Rattle.rows.proofs.Types.{AFound, AReference}
 use Rattle.rows.proofs.Calls.{Answers}
 use Rattle.rows.proofs.Folds.{Fold, folded, Next, Whole, fold-meets}

@@ -17,10 +17,10 @@ use denote.Struct.Laws as LL
 use denote.Triple.Table.{entered, cited}
 use Rattle.octets.specs.Lists.{any}
 use Rattle.board.specs.declared.Row.{Row}
-use Rattle.board.specs.RowTests.{clash, paired}
+use Rattle.board.specs.Code.RowTests.{clash, paired}
 use Rattle.rows.specs.declared.Placed.{Placed}
 use Rattle.rows.specs.declared.Met.{Met}
-use Rattle.rows.specs.Steps.{meeting, among}
+use Rattle.rows.specs.Code.Steps.{meeting, among}
 use Rattle.rows.proofs.Met as S
 use Rattle.rows.proofs.Met.Laws as S′
 use Rattle.rows.proofs.Types.{AMet, APlaced}

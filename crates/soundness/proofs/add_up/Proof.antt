@@ -5,7 +5,7 @@ use native.Mathlib.Omega.{arith}
 use lib.ListN.{length}
 use Rattle.octets.proofs.Loops.{Counting, step-at, past-end, count-start, count-step, count-end}
 use Rattle.board.specs.declared.Tally.{Tally}
-use Rattle.board.specs.RowTests.{takenRow, joinedRow, linkedRow}
+use Rattle.board.specs.Code.RowTests.{takenRow, joinedRow, linkedRow}
 use Rattle.board.proofs.Rows.{tally-all}
 use Rattle.soundness.proofs.add_up.Statement.{statement}
 use Rattle.soundness.proofs.add_up.Tie as tie

@@ -8,7 +8,7 @@ use lib.ListN.{take, drop}
 use Rattle.octets.specs.Lists.{all}
 use Rattle.octets.proofs.Loops.{all-end}
 use Rattle.board.specs.Soundness.{partnered}
-use Rattle.soundness.specs.Columns.{joints, allPartnered}
+use Rattle.soundness.specs.Code.Columns.{joints, allPartnered}
 use Rattle.soundness.proofs.ColumnLaws.{step-joints, past-joints, partner-itself, partner-found, partner-missed}
 
 abbrev Inv-loop : tie.InvT-loop

@@ -7,7 +7,7 @@ use Prim.Native.Nat.{_/_}
 use Rattle.board.specs.declared.Tally.{Tally}
 use Rattle.board.specs.declared.Counted.the-variants.{Counts}
 use Rattle.board.specs.Counts.{CountsAnswer, countedAnswer}
-use Rattle.board.specs.Tallies.{tallyOf}
+use Rattle.board.specs.Code.Tallies.{tallyOf}
 use Rattle.board.proofs.Answers.{counts-answer}
 
 sound-rows-requires : tie.Need-sound-rows-requires

@@ -9,7 +9,7 @@ use lib.ListN.{take, drop}
 use Rattle.octets.specs.Lists.{any}
 use Rattle.octets.proofs.Loops.{any-yes, any-no, any-end}
 use Rattle.board.specs.Soundness.{answersTo}
-use Rattle.soundness.specs.Columns.{joints}
+use Rattle.soundness.specs.Code.Columns.{joints}
 use Rattle.soundness.proofs.ColumnLaws.{step-joints, past-joints, any-drop}
 
 abbrev Inv-loop : tie.InvT-loop

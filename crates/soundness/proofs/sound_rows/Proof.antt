@@ -8,7 +8,7 @@ use mathlib.Core.Logic.{⊎-elim}
 use lib.ListN.{length}
 use borrow.Author.Tests.{le-leb, lt-leb}
 use Rattle.octets.proofs.Loops.{step-at, all-no}
-use Rattle.board.specs.RowTests.{fits}
+use Rattle.board.specs.Code.RowTests.{fits}
 use Rattle.board.proofs.Rows.{unfit-rows}
 use Rattle.soundness.proofs.Gathering.{Gathered, gathered-start, gathered-as, small-key, gathered-skip, gathered-step, gathered-sound}
 

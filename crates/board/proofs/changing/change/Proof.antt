@@ -12,7 +12,7 @@ use Rattle.octets.proofs.Places.{changedTo, changed-step, changed-kept, changed
 use Rattle.board.specs.declared.Row.{Row}
 use Rattle.board.specs.declared.Change.{Change}
 use Rattle.board.specs.declared.changing.Subject.{Subject}
-use Rattle.board.specs.Named.{subjectOf, concerns}
+use Rattle.board.specs.Code.Named.{subjectOf, concerns}
 use Rattle.board.specs.Changes.{rowAfter, changedRows, withRows}
 use Rattle.board.proofs.Long.{board-long}
 use Rattle.board.proofs.Standings.{untouched}

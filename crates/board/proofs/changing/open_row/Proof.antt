@@ -8,7 +8,7 @@ use mathlib.Core.List.{List}
 use Rattle.octets.proofs.Places.{told, Lowest}
 use Rattle.board.specs.declared.Row.{Row}
 use Rattle.board.specs.declared.finding.Key.the-variants as key
-use Rattle.board.specs.Keys.{isEmpty}
+use Rattle.board.specs.Code.Keys.{isEmpty}
 use Rattle.board.specs.Making.{emptyRow}
 use Rattle.board.specs.Changes.{withRows}
 use Rattle.board.proofs.Long.{board-long}

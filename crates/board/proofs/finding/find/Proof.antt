@@ -7,7 +7,7 @@ use mathlib.Core.Path.{_≡_, ap, _∙_}
 use lib.ListN.{length, drop}
 use Rattle.octets.specs.Lists.{placeFrom}
 use Rattle.octets.proofs.Places.{place-yes, place-no, place-end}
-use Rattle.board.specs.Keys.{matchesKey}
+use Rattle.board.specs.Code.Keys.{matchesKey}
 use Rattle.board.specs.Lookup.{foundAt}
 use Rattle.board.proofs.Long.{board-long}
 

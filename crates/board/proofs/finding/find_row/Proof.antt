@@ -6,7 +6,7 @@ use native.Mathlib.Omega.{arith}
 use mathlib.Core.Path.{_≡_, ap, _∙_}
 use lib.ListN.{length, drop}
 use Rattle.octets.specs.Lists.{find}
-use Rattle.board.specs.Keys.{matchesKey}
+use Rattle.board.specs.Code.Keys.{matchesKey}
 use Rattle.board.specs.Lookup.{foundRow}
 use Rattle.board.proofs.Long.{board-long}
 use Rattle.board.proofs.Searches.{first-yes, first-no, first-end}

@@ -11,7 +11,7 @@ use Rattle.octets.specs.Lists.{any}
 use Rattle.octets.specs.declared.CallReference.{CallReference}
 use Rattle.board.specs.declared.Row.{Row}
 use Rattle.board.specs.declared.finding.Key.the-variants as key
-use Rattle.board.specs.Keys.{matchesKey}
+use Rattle.board.specs.Code.Keys.{matchesKey}
 use Rattle.board.proofs.Long.{board-long}
 use Rattle.board.proofs.Searches.{any-more, any-end}
 

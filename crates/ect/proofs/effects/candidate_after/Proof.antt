@@ -1,5 +1,5 @@
 use mathlib.Core.Path.{sym, ap, _∙_}
-use Rattle.ect.specs.Effects.{candidateBy}
+use Rattle.ect.specs.Code.Effects.{candidateBy}
 use borrow.Author.Needs.{needs}
 use Rattle.ect.proofs.effects.candidate_after.Statement.{statement}
 use Rattle.ect.proofs.effects.candidate_after.Tie as tie

@@ -1,7 +1,7 @@
 use borrow.Author.Needs.{needs}
 use Rattle.row_tests.proofs.keys.row_key.Statement.{statement}
 use Rattle.row_tests.proofs.keys.row_key.Tie as tie
-use Rattle.row_tests.specs.RowKeys.{keyOf}
+use Rattle.row_tests.specs.Code.RowKeys.{keyOf}
 
 enum-told : tie.Need-enum-told
 enum-told c = search needs

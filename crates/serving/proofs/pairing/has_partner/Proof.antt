@@ -2,7 +2,7 @@ use mathlib.Core.Path.{sym, ap, _∙_}
 use Rattle.octets.proofs.Places.{told}
 use Rattle.octets.specs.Tests.{has}
 use Rattle.rules.specs.Serving.{partnerFor}
-use Rattle.serving.specs.Parties.{partyIn}
+use Rattle.serving.specs.Code.Parties.{partyIn}
 use Rattle.serving.proofs.PartyLaws.{party-none, party-some}
 use borrow.Author.Needs.{needs}
 use Rattle.serving.proofs.pairing.has_partner.Statement.{statement}

@@ -6,7 +6,7 @@ use Rattle.octets.specs.Lists.{placeFrom}
 use Rattle.octets.proofs.Places.{place-yes, place-no, place-end}
 use Rattle.board.proofs.Long.{board-long}
 use Rattle.rules.specs.Serving.{partnerFor}
-use Rattle.serving.specs.Parties.{hasPartner}
+use Rattle.serving.specs.Code.Parties.{hasPartner}
 use Rattle.serving.proofs.PairingLaws.{only-nowhere, only-here, only-several}
 use borrow.Author.Needs.{needs}
 use Rattle.serving.proofs.pairing.only_partner.Statement.{statement}

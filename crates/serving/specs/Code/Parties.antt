@@ -1,4 +1,4 @@
--- The party of a row (document 01, "The board": "a call with the served user").
+-- The parties of a board, and what the code finds among them.
 use Prim.Native.Nat.{ℕ}
 use mathlib.Core.Bool.{Bool, true, false}
 use mathlib.Core.List.{List}
@@ -29,7 +29,7 @@ standingParty leg (Joined p a) = none
 abbrev pub partyIn : Row → Option Party
 partyIn r = standingParty (r .leg) (r .standing)
 
--- "other served call pairs with the named one": the row has such a call
+-- the row has a call that pairs with the named one
 abbrev pub hasPartner : Options → Party → Row → Bool
 hasPartner o named row = has (partnerFor o named) (partyIn row)
 

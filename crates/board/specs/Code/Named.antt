@@ -1,5 +1,4 @@
--- The call that a change names (document 01, "The book": "Progress writes the call state, Hold the auxiliary state, of the call with that
--- reference"), and the rows that a change concerns.
+-- The call that a change names, and the rows that it concerns.
 use Prim.Native.Nat.{ℕ}
 use mathlib.Core.Bool.{Bool, cond, _||_}
 use lib.Dec.{eqb}

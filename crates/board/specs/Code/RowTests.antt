@@ -1,5 +1,4 @@
--- The tests of one row, and of two, that the soundness of rows comes to (document 01, "The board": the paragraph that defines the term).
--- Each is a test of Soundness put to the entries of rows; a row that is empty has none.
+-- The tests of one row, and of two, that the soundness of rows comes to: each is a test of Soundness put to the entries of rows. A row that is empty has none.
 use Prim.Native.Nat.{ℕ}
 use mathlib.Core.Bool.{Bool, true, _&&_, _||_, not}
 use mathlib.Core.Option.{Option, none}
@@ -9,11 +8,11 @@ use Rattle.board.specs.declared.Row.{Row}
 use Rattle.board.specs.Entries.{Connection, WithUser, WithPartner, Entry, rowEntry, occupied, linked, isJoined}
 use Rattle.board.specs.Soundness.{validRow, validEntry, sameLegs, sameReferences, sameLinkIds, answersTo}
 
--- "fields obey this section and the digit rules below"
+-- the fields of a row and of its entry
 unfoldable pub fits : Row → Bool
 fits r = validRow r && noneOr validEntry (rowEntry r)
 
--- two entries that share what has to be distinct: "legs are distinct, references are distinct, live LinkIds are distinct"
+-- two entries that share a leg, a reference or a LinkId
 abbrev pub sharing : Entry → Entry → Bool
 sharing e f = sameReferences e f || sameLinkIds e f
 
@@ -23,7 +22,7 @@ clashing e f = sameLegs e f || sharing e f
 unfoldable pub clash : Row → Row → Bool
 clash a b = hasBoth clashing (rowEntry a) (rowEntry b)
 
--- "each joined row's partner is another row joined to it, not both alerting": of leg n and its connection, o is that row, or it needs none
+-- of leg n and its connection: o is its partner's row, or it needs none
 abbrev pub answered : ℕ → Connection → Option Entry → Bool
 answered n (WithUser c) o = true
 answered n (WithPartner p a) o = not (eqb n p) && has (answersTo n p a) o
@@ -31,7 +30,7 @@ answered n (WithPartner p a) o = not (eqb n p) && has (answersTo n p a) o
 unfoldable pub paired : Row → Row → Bool
 paired a b = noneOr (λ (e : Entry). answered (e .leg) (e .connection) (rowEntry b)) (rowEntry a)
 
--- ---- what a row counts for: "legs: rows not empty; pairs: joined rows, two to a pair; live LinkIds"
+-- ---- what a row counts for
 
 abbrev pub takenRow : Row → Bool
 takenRow r = occupied (r .standing)

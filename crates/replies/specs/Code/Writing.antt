@@ -1,4 +1,4 @@
--- The replies of an event as a value, and what each writer of a record adds. No public contract cites `blank`, `appended`, `Grown` and `Adds`.
+-- The replies of an event as a value, and what each writer of a record adds.
 use Prim.Native.Nat.{ℕ, _+_, _-_}
 use mathlib.Core.Path.{_≡_}
 use mathlib.Core.List.{List, [], _∷_, _++_}

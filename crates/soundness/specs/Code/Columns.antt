@@ -1,4 +1,4 @@
--- Columns of numbers that the rows not empty are read into, to be tested for soundness (document 01, "The board").
+-- Columns of numbers that the rows not empty are read into, to be tested for soundness.
 use Prim.Native.Nat.{ℕ}
 use mathlib.Core.Bool.{Bool}
 use mathlib.Core.List.{List, [], _∷_}
@@ -12,7 +12,7 @@ use Rattle.board.specs.declared.Entry.{Entry}
 use Rattle.board.specs.Entries.{referenceOf, linkIdOf}
 use Rattle.board.specs.Soundness.{partnered}
 use Rattle.row_tests.specs.declared.keys.Joint.{Joint}
-use Rattle.row_tests.specs.RowKeys.{linkNumber, joint, answersJoint}
+use Rattle.row_tests.specs.Code.RowKeys.{linkNumber, joint, answersJoint}
 
 -- ---- what an entry puts into each column
 
@@ -54,7 +54,7 @@ joints (n ∷ ns) [] bs = []
 joints (n ∷ ns) (p ∷ ps) [] = []
 joints (n ∷ ns) (p ∷ ps) (b ∷ bs) = joint n p b ∷ joints ns ps bs
 
--- "each joined row's partner is another row joined to it, not both alerting"
+-- each joined leg has a partner that is joined back to it, not both alerting
 abbrev pub allPartnered : List Entry → Bool
 allPartnered es = all (partnered es) es
 

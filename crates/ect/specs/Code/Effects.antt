@@ -1,4 +1,4 @@
--- What the code's effect of an event says: the answer, the board and the replies of a decision. No public contract cites these.
+-- What the code's effect of an event says: the answer, the board and the replies of a decision.
 use Prim.Native.Nat.{ℕ}
 use mathlib.Core.Path.{_≡_}
 use mathlib.Core.List.{List}
@@ -33,8 +33,8 @@ use Rattle.ect.specs.declared.effects.Deed.the-variants.{Stay, Enter, Ap
 use Rattle.ect.specs.declared.effects.Effect.{Effect}
 use Rattle.replies.specs.declared.Out.{Out}
 use Rattle.replies.specs.declared.FarParty.{FarParty}
-use Rattle.replies.specs.Writing.{rendered, numberTold}
-use Rattle.serving.specs.Parties.{entriesOf}
+use Rattle.replies.specs.Code.Writing.{rendered, numberTold}
+use Rattle.serving.specs.Code.Parties.{entriesOf}
 
 -- the row that an Open enters
 abbrev pub openedRow : ℕ → ℕ → Direction → ℕ → ℕ → List ℕ → Row
@@ -57,7 +57,7 @@ answerTo (Refused c) n = step-answer.Refused c
 abbrev pub effect : Verdict → Deed → Row → Out → Effect
 effect v d row o = record { verdict = v; deed = d; row = row; out = o }
 
--- "the candidate becomes the value after"
+-- the candidate that a change leaves
 abbrev pub candidateBy : LinkId → Change → LinkId
 candidateBy z (change.SetState r s) = z
 candidateBy z (change.SetAuxiliary r a) = z

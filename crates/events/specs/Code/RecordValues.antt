@@ -1,4 +1,4 @@
--- What the record reader's answers say. No public contract cites these.
+-- What the record reader's answers say; its contract is `RecordRead`.
 use Prim.Native.Nat.{ℕ, _+_, _≤_}
 use mathlib.Core.Path.{_≡_}
 use mathlib.Core.Bool.{Bool, _&&_}

@@ -1,6 +1,5 @@
--- What rows are compared by (document 01, "The board": "legs are distinct, references are distinct, live LinkIds are distinct", and the
--- rule on partners), as numbers. The rules themselves are those of board/specs/Soundness; proofs/KeyLaws shows that rows compared by these
--- numbers are compared as the rules say.
+-- What rows are compared by, as numbers. The rules are those of board/specs/Soundness; proofs/KeyLaws shows that rows compared by these numbers
+-- are compared as the rules say.
 use Prim.Native.Nat.{ℕ, _+_, _*_}
 use mathlib.Core.Bool.{Bool, _&&_}
 use lib.Dec.{eqb}

@@ -1,4 +1,4 @@
--- What the writers of octets add to a component. No public contract cites these.
+-- What the writers of octets add to a component.
 use Prim.Native.Nat.{ℕ, _+_}
 use mathlib.Core.Path.{_≡_}
 use mathlib.Core.List.{List, _∷_}

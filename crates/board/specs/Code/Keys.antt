@@ -1,5 +1,4 @@
--- What a row is found by (document 01, "The board", "Event records" and "Serving it"): the events name a call by its reference, a far party by its
--- leg and a call by its LinkId, and Open takes an empty row.
+-- What a row is found by: its call's reference, its leg, its call's LinkId, or that it is empty.
 use Prim.Native.Nat.{ℕ}
 use mathlib.Core.Bool.{Bool, _&&_, not}
 use mathlib.Core.List.{List}
@@ -19,11 +18,11 @@ use Rattle.board.specs.declared.finding.Key.the-variants as key
 use Rattle.board.specs.Entries.{occupied, linkIdIn, isLinkId}
 use Rattle.board.specs.Lookup.{hasCallOf}
 
--- "6, Open: leg on the board", "10, Release, Answer: no such leg": a row that is not empty has that leg
+-- a row that is not empty has that leg
 abbrev pub hasRowLeg : ℕ → Row → Bool
 hasRowLeg n row = occupied (row .standing) && eqb n (row .leg)
 
--- "A LinkId lives until its call is released or transferred": the LinkId of a row's call
+-- the LinkId of a row's call
 abbrev pub linkOf : Standing → OptionalLinkId
 linkOf Empty = Absent
 linkOf (Served c) = c .link
@@ -32,7 +31,7 @@ linkOf (Joined p a) = Absent
 abbrev pub hasRowLinkId : ℤ → Row → Bool
 hasRowLinkId z row = isLinkId z (linkIdIn (linkOf (row .standing)))
 
--- "Open takes the lowest empty row"
+-- the row is empty
 abbrev pub isEmpty : Row → Bool
 isEmpty row = not (occupied (row .standing))
 
@@ -42,7 +41,7 @@ matchesKey (key.Leg n) row = hasRowLeg n row
 matchesKey (key.LinkId l) row = hasRowLinkId (l .0) row
 matchesKey key.Empty row = isEmpty row
 
--- "6: leg on the board", "7: reference in use", "8: no empty row": what an Open asks of the rows
+-- what an Open asks of the rows: whether one has the leg, one the reference, and one is empty
 abbrev pub surveyOf : ℕ → CallReference → List Row → Survey
 surveyOf n r rows =
     record { leg = any (matchesKey (key.Leg n)) rows; reference = any (matchesKey (key.Reference r)) rows; empty = any (matchesKey key.Empty) rows }

@@ -1,4 +1,4 @@
--- What the answers of the element readers say. No public contract cites these.
+-- What the answers of the element readers say.
 use Prim.Native.Nat.{ℕ, _+_, _≤_}
 use mathlib.Core.Path.{_≡_}
 use mathlib.Core.Bool.{Bool, true, false, not, _||_, cond}
