@@ -1,5 +1,4 @@
 -- Definitions that describe the code, for its proofs: no rule of document 01 stands here.
-pub mod Named
 pub mod Keys
 pub mod RowTests
 pub mod Tallies

@@ -4,7 +4,6 @@ use octets::LinkId;
 ghost use mathlib.Core.Path.{_≡_};
 ghost use Rattle.board.specs.Making.{emptyRow, emptyBoard, unmade, fresh as freshBoard};
 
-pub mod changing;
 pub mod finding;
 
 // "at most 16": the LinkIds that may be live at a time.

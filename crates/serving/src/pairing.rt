@@ -9,7 +9,7 @@ use board::FoundParty;
 use board::Options;
 use board::Party;
 use board::Row;
-use board::changing::is_delivered;
+use row_changes::is_delivered;
 ghost use mathlib.Core.Path.{_≡_};
 ghost use Rattle.octets.specs.Lists.{only, keep};
 ghost use Rattle.board.specs.States.{stateNumber, auxiliaryNumber, directionNumber};
