@@ -8,7 +8,8 @@ use lib.ListN.{length, drop}
 use Rattle.board.specs.Soundness.{sound}
 use Rattle.board.specs.declared.Board.{Board}
 use Rattle.ect.specs.Contract.{Shows, Steps, StepsTested, answerNumber, answerCount}
-use Rattle.ect.specs.Code.Effects.{Carries, verdictOf, answerTo, boardBy}
+use Rattle.effects.specs.Code.Effects.{Carries, verdictOf, boardBy}
+use Rattle.ect.specs.Code.Answering.{answerTo}
 use Rattle.replies.specs.declared.Out.{Out}
 use Rattle.replies.specs.Code.Writing.{rendered, written}
 use Rattle.replies.proofs.WritingLaws.{rendered-len, rendered-written, rendered-fits}
@@ -21,8 +22,8 @@ use Rattle.events.specs.Refusals.{refusalNumber}
 use Rattle.rules.specs.Replies.{DropOrder, ReplyRecord, octets, NamedFirst}
 use Rattle.rules.specs.Step.{replies, step, stepTested, refused, Outcome, done, decision}
 use Rattle.events.specs.declared.Refusal.the-variants as refusal
-use Rattle.ect.specs.declared.effects.Verdict.{Verdict}
-use Rattle.ect.specs.declared.effects.Effect.{Effect}
+use Rattle.effects.specs.declared.Verdict.{Verdict}
+use Rattle.effects.specs.declared.Effect.{Effect}
 
 -- ---- the outcome
 

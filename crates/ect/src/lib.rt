@@ -12,10 +12,7 @@ ghost use mathlib.Core.List.{_++_};
 ghost use lib.ListN.{length, drop};
 ghost use Rattle.replies.specs.Code.Writing.{written};
 ghost use Rattle.ect.specs.Contract.{Steps, StepsTested};
-ghost use Rattle.ect.specs.Code.Effects.{answerTo};
-
-mod digits;
-mod effects;
+ghost use Rattle.ect.specs.Code.Answering.{answerTo};
 
 // Accepted, with the number of octets written; or refused.
 pub enum StepAnswer {

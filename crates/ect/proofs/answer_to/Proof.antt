@@ -1,6 +1,6 @@
 use mathlib.Core.Path.{sym, ap}
-use Rattle.ect.specs.declared.effects.Verdict.{Verdict}
-use Rattle.ect.specs.Code.Effects.{answerTo}
+use Rattle.effects.specs.declared.Verdict.{Verdict}
+use Rattle.ect.specs.Code.Answering.{answerTo}
 use borrow.Author.Needs.{needs}
 use Rattle.ect.proofs.answer_to.Statement.{statement}
 use Rattle.ect.proofs.answer_to.Tie as tie
