@@ -9,6 +9,7 @@ use Rattle.board.specs.Soundness.{sound}
 use Rattle.board.specs.declared.Board.{Board}
 use Rattle.ect.specs.Contract.{Shows, Steps, StepsTested, answerNumber, answerCount}
 use Rattle.effects.specs.Code.Effects.{Carries, verdictOf, boardBy}
+use Rattle.effects.proofs.EffectLaws.{verdict-is, board-is, says}
 use Rattle.ect.specs.Code.Answering.{answerTo}
 use Rattle.replies.specs.declared.Out.{Out}
 use Rattle.replies.specs.Code.Writing.{rendered, written}
@@ -52,11 +53,11 @@ copied : {o : Out} (rs : List ReplyRecord) {b : List ℕ} (before : List ℕ) �
 copied rs before s e = e ∙ rw (s, rendered-written rs, rendered-len rs)
 
 written-len : {e : Effect} {b : Board} {d : Decision} → Carries e b d → e .out .len ≡ length (octets (replies NamedFirst (b .rows) d))
-written-len {b = b} {d = d} k = ap (λ (o : Out). o .len) (k .says) ∙ rendered-len (replies NamedFirst (b .rows) d)
+written-len {b = b} {d = d} k = ap (λ (o : Out). o .len) (says k) ∙ rendered-len (replies NamedFirst (b .rows) d)
 
 -- the replies fit their array, whatever the board
 pub fits : {e : Effect} {b : Board} {d : Decision} → length (e .out .octets) ≡ 128 → Carries e b d → e .out .len ≤ 128
-fits {b = b} {d = d} l k = rendered-fits (replies NamedFirst (b .rows) d) (k .says) l
+fits {b = b} {d = d} l k = rendered-fits (replies NamedFirst (b .rows) d) (says k) l
 
 -- the test handed in is the board's own
 pub own-test : (b : Board) (os before after : List ℕ) (r : Stepped) {tested : Bool} → tested ≡ sound b → StepsTested tested b os before r after → Steps b os before r after
@@ -94,14 +95,14 @@ module _ (b : Board) (os before : List ℕ) where
         n ≡ e .out .len → after ≡ written (e .out) ++ drop (e .out .len) before → a ≡ answerTo (e .verdict) n → b′ ≡ boardBy (e .deed) (e .row) b → StepsTested tested b os before (stepped a b′) after
     step-done t k {n} m q v w =
         let d = decision b os in
-        let u = v ∙ ap (λ (x : Verdict). answerTo x n) (k .verdict) in
+        let u = v ∙ ap (λ (x : Verdict). answerTo x n) (verdict-is k) in
         rw t (
           NamedFirst,
           shows-is (enough true NamedFirst b os (length before) h)
               (record {
                 answer = ap answerNumber u ∙ answer-by d n;
                 count = ap answerCount u ∙ count-by d n (m ∙ written-len k);
-                board = w ∙ k .board;
-                buffer = copied (replies NamedFirst (b .rows) d) before (k .says) q;
+                board = w ∙ board-is k;
+                buffer = copied (replies NamedFirst (b .rows) d) before (says k) q;
               }),
         )

@@ -31,7 +31,7 @@ use Rattle.board.specs.declared.FoundEntry.the-variants as found-entry
 use Rattle.board.specs.declared.FoundParty.{FoundParty}
 use Rattle.board.specs.declared.FoundParty.the-variants as found-party
 use Rattle.component.specs.Reading.{reading}
-use Rattle.effects.specs.Code.Effects.{Describes, Carries, Does, effect, openedRow, candidateBy, boardBy, partyFound, entryFound}
+use Rattle.effects.specs.Code.Effects.{Describes, Carries, Does, effect, verdictOf, deedOf, rowOf, openedRow, candidateBy, boardBy, partyFound, entryFound}
 use Rattle.replies.specs.Code.Writing.{rendered, numberTold, transferRecords}
 use Rattle.events.specs.EventRecords.{Request, request}
 use Rattle.events.specs.declared.Refusal.{Refusal}
@@ -42,7 +42,7 @@ use Rattle.octets.specs.declared.LinkId.{LinkId}
 use Rattle.rules.specs.Checks.{Refuse, opened, OpenLeg, SetState, SetAuxiliary, ReleaseLeg, EndAlerting, ServeCall, Decision, decideOpen, decideProgress, mayProgress, decideHold, mayHold, decideRelease, decideAnswer, decideAlerting, decideFacility, decide}
 use Rattle.rules.specs.Replies.{NamedFirst, Drop, Gone, numberAt, Tell, facility, transferredActive, Reply}
 use Rattle.rules.specs.Serving.{serve}
-use Rattle.rules.specs.Step.{serviceReplies, replies, boardAfter, rowsAfter, candidateAfter, decision}
+use Rattle.rules.specs.Step.{releaseOf, serviceReplies, replies, boardAfter, rowsAfter, candidateAfter, decision}
 use Rattle.board.specs.declared.Change.the-variants as change
 use Rattle.component.specs.declared.Answer.{Answer as ComponentAnswer}
 use Rattle.component.specs.declared.Answer.the-variants as answer
@@ -63,14 +63,14 @@ transfer-replies : {rows : List Row} {p q : Party} {f g : FarParty} (r : CallRef
     → transferRecords r i f g ≡ serviceReplies NamedFirst rows (r .0) (Transfer p q i)
 transfer-replies r i d e = rw (d .reference, d .leg, d .alerts, d .number, e .reference, e .leg, e .alerts, e .number)
 
-pub refused : (c : Refusal) {row : Row} {o : Out} → o ≡ rendered [] → Does (effect (Refused c) Stay row o) (Refuse c)
-unfolding boardAfter rowsAfter candidateAfter replies
-refused c e b = record { verdict = refl; board = refl; says = e }
+pub refused : (c : Refusal) {row : Row} {o : Out} → row ≡ emptyRow → o ≡ rendered [] → Does (effect (Refused c) Stay row o) (Refuse c)
+unfolding replies
+refused c h e b = record { is = ap₂ (effect (Refused c) Stay) h e }
 
 pub opened-leg : (b : Board) (r l : ℕ) (d : Direction) (p n : ℕ) (ds : List ℕ) {row : Row} {o : Out} → row ≡ openedRow r l d p n ds → o ≡ rendered [] →
     Carries (effect Accepted Enter row o) b (OpenLeg l (opened r d) p n ds)
-unfolding boardAfter rowsAfter candidateAfter replies
-opened-leg b r l d p n ds h e = record { verdict = refl; board = ap (λ (x : Row). withRows (enter x (b .rows)) b) h; says = e }
+unfolding replies
+opened-leg b r l d p n ds h e = record { is = ap₂ (effect Accepted Enter) h e }
 
 -- an effect that enters no row, by what the code makes it of
 abbrev Made : Effect → Out → Deed → Type 0
@@ -81,48 +81,78 @@ module _ {e : Effect} {o : Out} where
   by-made x h k = subst⁻¹ (λ (v : Effect). Does v x) h k
 
   pub state-set : (r : CallReference) (s : CallState) → Made e o (Apply (change.SetState r s)) → o ≡ rendered [] → Does e (SetState (r .0) s)
-  unfolding boardAfter rowsAfter candidateAfter replies
-  state-set r s h z = by-made (SetState (r .0) s) h (λ b. record { verdict = refl; board = refl; says = z })
+  unfolding replies
+  state-set r s h z = by-made (SetState (r .0) s) h (λ b. record { is = ap (effect Accepted (Apply (change.SetState r s)) emptyRow) z })
 
   pub auxiliary-set : (r : CallReference) (a : AuxiliaryState) → Made e o (Apply (change.SetAuxiliary r a)) → o ≡ rendered [] → Does e (SetAuxiliary (r .0) a)
-  unfolding boardAfter rowsAfter candidateAfter replies
-  auxiliary-set r a h z = by-made (SetAuxiliary (r .0) a) h (λ b. record { verdict = refl; board = refl; says = z })
+  unfolding replies
+  auxiliary-set r a h z = by-made (SetAuxiliary (r .0) a) h (λ b. record { is = ap (effect Accepted (Apply (change.SetAuxiliary r a)) emptyRow) z })
 
   pub call-released : (l : ℕ) (c : Call) → Made e o (Apply (change.Release l)) → o ≡ rendered (Drop (c .reference .0) ∷ []) → Does e (ReleaseLeg (entry l (WithUser c)))
-  unfolding boardAfter rowsAfter candidateAfter replies
-  call-released l c h k = by-made (ReleaseLeg (entry l (WithUser c))) h (λ b. record { verdict = refl; board = refl; says = k })
+  unfolding replies
+  call-released l c h k = by-made (ReleaseLeg (entry l (WithUser c))) h (λ b. record { is = ap (effect Accepted (Apply (change.Release l)) emptyRow) k })
 
   pub pair-released : (l p : ℕ) (a : Bool) → Made e o (Apply (change.ReleasePair l p)) → o ≡ rendered (Gone p ∷ []) → Does e (ReleaseLeg (entry l (WithPartner p a)))
-  unfolding boardAfter rowsAfter candidateAfter replies
-  pair-released l p a h k = by-made (ReleaseLeg (entry l (WithPartner p a))) h (λ b. record { verdict = refl; board = refl; says = k })
+  unfolding replies
+  pair-released l p a h k = by-made (ReleaseLeg (entry l (WithPartner p a))) h (λ b. record { is = ap (effect Accepted (Apply (change.ReleasePair l p)) emptyRow) k })
 
   pub alerting-ended : (b : Board) (l p : ℕ) {t : Told} → Made e o (Apply (change.EndAlerting l)) → numberTold t ≡ numberAt (b .rows) l →
       o ≡ rendered (Tell p facility transferredActive (numberTold t) 0 ∷ []) → Carries e b (EndAlerting l p)
-  unfolding boardAfter rowsAfter candidateAfter replies
+  unfolding replies
   alerting-ended b l p h n k =
       subst⁻¹ (λ (v : Effect). Carries v b (EndAlerting l p)) h
-      (record { verdict = refl; board = refl; says = rw n at k })
+      (record { is = ap (effect Accepted (Apply (change.EndAlerting l)) emptyRow) (rw n at k) })
 
   module _ (p : Party) where
     pub served-silent : Made e o Stay → o ≡ rendered [] → Does e (ServeCall p Silent)
-    unfolding boardAfter rowsAfter candidateAfter replies
-    served-silent h z = by-made (ServeCall p Silent) h (λ b. record { verdict = refl; board = refl; says = z })
+    unfolding replies
+    served-silent h z = by-made (ServeCall p Silent) h (λ b. record { is = ap (effect Accepted Stay emptyRow) z })
 
     pub responded : (a : ComponentAnswer) → Made e o Stay → o ≡ rendered (Reply (p .call .reference .0) a ∷ []) → Does e (ServeCall p (Respond a))
-    unfolding boardAfter rowsAfter candidateAfter replies
-    responded a h k = by-made (ServeCall p (Respond a)) h (λ b. record { verdict = refl; board = refl; says = k })
+    unfolding replies
+    responded a h k = by-made (ServeCall p (Respond a)) h (λ b. record { is = ap (effect Accepted Stay emptyRow) k })
 
     pub assigned-link : (l : LinkId) (i : IntegerOctets) → Made e o (Apply (change.SetLinkId (p .call .reference) l)) →
         o ≡ rendered (Reply (p .call .reference .0) (answer.LinkIdResult i l) ∷ []) → Does e (ServeCall p (AssignLinkId l i))
-    unfolding boardAfter rowsAfter candidateAfter replies
-    assigned-link l i h k = by-made (ServeCall p (AssignLinkId l i)) h (λ b. record { verdict = refl; board = refl; says = k })
+    unfolding replies
+    assigned-link l i h k = by-made (ServeCall p (AssignLinkId l i)) h (λ b. record { is = ap (effect Accepted (Apply (change.SetLinkId (p .call .reference) l)) emptyRow) k })
 
     pub transferred-calls : (b : Board) (x y : Party) (i : IntegerOctets) {f g : FarParty} → Made e o (Apply (change.Join (x .leg) (y .leg))) →
         Describes (b .rows) x f → Describes (b .rows) y g → o ≡ rendered (transferRecords (p .call .reference) i f g) → Carries e b (ServeCall p (Transfer x y i))
-    unfolding boardAfter rowsAfter candidateAfter replies
+    unfolding replies
     transferred-calls b x y i h d₁ d₂ k =
         subst⁻¹ (λ (v : Effect). Carries v b (ServeCall p (Transfer x y i))) h
-        (record { verdict = refl; board = refl; says = k ∙ ap rendered (transfer-replies (p .call .reference) i d₁ d₂) })
+        (record { is = ap (effect Accepted (Apply (change.Join (x .leg) (y .leg))) emptyRow) (k ∙ ap rendered (transfer-replies (p .call .reference) i d₁ d₂)) })
+
+-- ---- what an effect says
+
+-- the deed of a decision makes the board of the decision
+deed-board : (d : Decision) (b : Board) → boardBy (deedOf d) (rowOf d) b ≡ boardAfter d b
+unfolding boardAfter rowsAfter candidateAfter
+deed-board (Refuse c) b = refl
+deed-board (OpenLeg l c p n ds) b = refl
+deed-board (SetState r s) b = refl
+deed-board (SetAuxiliary r a) b = refl
+deed-board (ReleaseLeg e) b = go (e .connection)
+  where
+    go : (t : Connection) → boardBy (Apply (releaseOf (e .leg) t)) emptyRow b ≡ record { rows = changedRows (releaseOf (e .leg) t) (b .rows); options = b .options; candidate = b .candidate }
+    go (WithUser c) = refl
+    go (WithPartner p a) = refl
+deed-board (ServeCall p Silent) b = refl
+deed-board (ServeCall p (Respond a)) b = refl
+deed-board (ServeCall p (AssignLinkId l i)) b = refl
+deed-board (ServeCall p (Transfer x y i)) b = refl
+deed-board (EndAlerting l p) b = refl
+
+module _ {e : Effect} {b : Board} {d : Decision} (k : Carries e b d) where
+  pub verdict-is : e .verdict ≡ verdictOf d
+  verdict-is = ap (λ (x : Effect). x .verdict) (k .is)
+
+  pub board-is : boardBy (e .deed) (e .row) b ≡ boardAfter d b
+  board-is = ap (λ (x : Effect). boardBy (x .deed) (x .row) b) (k .is) ∙ deed-board d b
+
+  pub says : e .out ≡ rendered (replies NamedFirst (b .rows) d)
+  says = ap (λ (x : Effect). x .out) (k .is)
 
 -- ---- the board that is made
 

@@ -3,7 +3,7 @@ use native.Mathlib.Omega.{arith}
 use mathlib.Core.Path.{_≡_}
 use lib.ListN.{length}
 use Rattle.octets.proofs.Lists.{is-not}
-use Rattle.serving.proofs.PairingLaws.{was-true}
+use borrow.Author.Tests.{not-false}
 use Rattle.ect.proofs.StepLaws.{too-small, not-sound, fits, step-done}
 use borrow.Author.Needs.{needs}
 use Rattle.ect.proofs.step_tested.Statement.{statement}
@@ -43,7 +43,7 @@ same-length c = search needs
 returns-3 : tie.Need-returns-3
 returns-3 c =
     let s = c .before .before .before .before .before .before .before .before .before .before .before .before .args in
-    step-done (s .board) (s .event .now) (s .reply .now) (omega arith) (was-true _ (c .before .before .before .before .before .before .before .before .if2 .left))
+    step-done (s .board) (s .event .now) (s .reply .now) (omega arith) (not-false _ (c .before .before .before .before .before .before .before .before .if2 .left))
     (c .before .before .before .before .before .before .before .effect-of .ensures) (c .before .before .before .before .copy-out .ensures .0) (c .before .before .before .before .copy-out .ensures .1) (c .before .answer-to .ensures) (c .done .ensures)
 
 pub step-tested-spec : {M : Type 1} → statement M

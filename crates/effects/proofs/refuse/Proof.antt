@@ -10,7 +10,7 @@ nothing-requires : tie.Need-nothing-requires
 nothing-requires c κs = search needs
 
 returns : tie.Need-returns
-returns c = refused (c .before .before .args .refusal) (c .nothing .ensures)
+returns c = refused (c .before .before .args .refusal) (c .before .empty-row .ensures) (c .nothing .ensures)
 
 pub refuse-spec : {M : Type 1} → statement M
 refuse-spec = tie.close (tie.spec empty-row-requires nothing-requires returns)

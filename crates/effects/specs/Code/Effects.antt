@@ -23,7 +23,10 @@ use Rattle.board.specs.States.{delivered}
 use Rattle.board.specs.Changes.{full, enter, changedRows, withRows}
 use Rattle.rules.specs.Replies.{NamedFirst, numberAt}
 use Rattle.rules.specs.Checks.{Decision, Refuse, OpenLeg, SetState, SetAuxiliary, ReleaseLeg, ServeCall, EndAlerting, opened, named, decideOpen, decideFacility}
-use Rattle.rules.specs.Step.{boardAfter, replies}
+use Rattle.rules.specs.Step.{releaseOf, replies}
+use Rattle.rules.specs.declared.Service.{Service}
+use Rattle.rules.specs.declared.Service.the-variants.{Silent, Respond, AssignLinkId, Transfer}
+use Rattle.board.specs.Making.{emptyRow}
 use Rattle.effects.specs.declared.Verdict.{Verdict}
 use Rattle.effects.specs.declared.Verdict.the-variants.{Accepted, Refused}
 use Rattle.effects.specs.declared.Deed.{Deed}
@@ -66,11 +69,34 @@ boardBy Stay row b = b
 boardBy Enter row b = withRows (enter row (b .rows)) b
 boardBy (Apply c) row b = record { rows = changedRows c (b .rows); options = b .options; candidate = candidateBy (b .candidate) c }
 
--- the effect on the board b is that of the decision d
+-- what a decision does to the board, and the row that it enters; an empty one where it enters none
+abbrev pub serviceDeed : Party → Service → Deed
+serviceDeed p Silent = Stay
+serviceDeed p (Respond a) = Stay
+serviceDeed p (AssignLinkId l i) = Apply (change.SetLinkId (p .call .reference) l)
+serviceDeed p (Transfer x y i) = Apply (change.Join (x .leg) (y .leg))
+
+abbrev pub deedOf : Decision → Deed
+deedOf (Refuse c) = Stay
+deedOf (OpenLeg l c p n ds) = Enter
+deedOf (SetState r s) = Apply (change.SetState (record { 0 = r }) s)
+deedOf (SetAuxiliary r a) = Apply (change.SetAuxiliary (record { 0 = r }) a)
+deedOf (ReleaseLeg e) = Apply (releaseOf (e .leg) (e .connection))
+deedOf (ServeCall p s) = serviceDeed p s
+deedOf (EndAlerting l p) = Apply (change.EndAlerting l)
+
+abbrev pub rowOf : Decision → Row
+rowOf (Refuse c) = emptyRow
+rowOf (OpenLeg l c p n ds) = record { leg = l; presentation = p; count = n; digits = ds; standing = Served c }
+rowOf (SetState r s) = emptyRow
+rowOf (SetAuxiliary r a) = emptyRow
+rowOf (ReleaseLeg e) = emptyRow
+rowOf (ServeCall p s) = emptyRow
+rowOf (EndAlerting l p) = emptyRow
+
+-- the effect of the decision d on the board b: the replies are those for its rows, the named call's Drop first
 pub record Carries (r : Effect) (b : Board) (d : Decision) : Type 0 where
-  pub verdict : r .verdict ≡ verdictOf d
-  pub board : boardBy (r .deed) (r .row) b ≡ boardAfter d b
-  pub says : r .out ≡ rendered (replies NamedFirst (b .rows) d)
+  pub is : r ≡ effect (verdictOf d) (deedOf d) (rowOf d) (rendered (replies NamedFirst (b .rows) d))
 
 -- the effect is that of the decision on any board
 abbrev pub Does : Effect → Decision → Type 0
