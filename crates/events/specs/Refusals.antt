@@ -1,7 +1,8 @@
 -- The numbers of refusals (document 01, "Event records": the table of what is returned).
 use Prim.Native.Nat.{ℕ}
 use Rattle.events.specs.declared.Refusal.{Refusal}
-use Rattle.events.specs.declared.Refusal.the-variants.{BufferTooSmall, UnsoundBoard, WrongLength, UnknownKind, FieldOutOfRange, LegOnBoard, ReferenceInUse, NoEmptyRow, NoSuchCall, NoSuchLeg, NotPermitted}
+use Rattle.events.specs.declared.Refusal.the-variants.{BufferTooSmall, UnsoundBoard, WrongLength, UnknownKind, FieldOutOfRange}
+use Rattle.events.specs.declared.Refusal.the-variants.{LegOnBoard, ReferenceInUse, NoEmptyRow, NoSuchCall, NoSuchLeg, NotPermitted}
 
 -- "Returned", in the order of the checks
 abbrev pub refusalNumber : Refusal → ℕ
