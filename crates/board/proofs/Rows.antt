@@ -12,9 +12,10 @@ use Rattle.octets.proofs.Lists.{any-of, keep-ext, same-tests, true-not-false}
 use Rattle.octets.proofs.Loops.{all-pick, any-pick, distinct-pick, all-and, any-and, all-same, distinct-or, length-pick, length-keep-pick}
 use Rattle.board.specs.declared.Standing.{Standing}
 use Rattle.board.specs.declared.Standing.the-variants.{Empty, Served, Joined}
+use Rattle.board.specs.declared.PartyNumber.{PartyNumber}
 use Rattle.board.specs.declared.Row.{Row}
 use Rattle.board.specs.Entries.{Connection, WithUser, WithPartner, Entry, entryOf, rowEntry, taken, occupied, linked, isJoined, linkIds}
-use Rattle.board.specs.Soundness.{validRow, validEntry, validParty, validStanding, sameLegs, sameReferences, sameLinkIds, answersTo, validPartner, partnered, soundEntries, soundRows}
+use Rattle.board.specs.Soundness.{validRow, validEntry, validNumber, validStanding, sameLegs, sameReferences, sameLinkIds, answersTo, validPartner, partnered, soundEntries, soundRows}
 use Rattle.board.specs.Code.RowTests.{fits, sharing, clashing, clash, answered, paired, takenRow, joinedRow, linkedRow}
 use Rattle.board.specs.Code.Tallies.{tallyOf}
 
@@ -28,25 +29,25 @@ and-false false = refl
 
 -- ---- one row
 
-pub taken-party : (leg p n : ℕ) (ds : List ℕ) (s : Standing) → occupied s ≡ true → validStanding leg p n ds s ≡ validParty p n ds
-taken-party leg p n ds Empty e = absurd (true-not-false e refl)
-taken-party leg p n ds (Served c) e = refl
-taken-party leg p n ds (Joined q a) e = refl
+pub taken-number : (leg : ℕ) (n : PartyNumber) (s : Standing) → occupied s ≡ true → validStanding leg n s ≡ validNumber n
+taken-number leg n Empty e = absurd (true-not-false e refl)
+taken-number leg n (Served c) e = refl
+taken-number leg n (Joined q a) e = refl
 
 pub empty-standing : (s : Standing) → occupied s ≡ false → s ≡ Empty
 empty-standing Empty e = refl
 empty-standing (Served c) e = absurd (true-not-false refl e)
 empty-standing (Joined q a) e = absurd (true-not-false refl e)
 
-pub taken-fits : (r : Row) → occupied (r .standing) ≡ true → noneOr validEntry (rowEntry r) ≡ true → fits r ≡ validParty (r .presentation) (r .count) (r .digits)
+pub taken-fits : (r : Row) → occupied (r .standing) ≡ true → noneOr validEntry (rowEntry r) ≡ true → fits r ≡ validNumber (r .number)
 unfolding fits validRow
-taken-fits r t e = rw (e, taken-party (r .leg) (r .presentation) (r .count) (r .digits) (r .standing) t) (and-true _)
+taken-fits r t e = rw (e, taken-number (r .leg) (r .number) (r .standing) t) (and-true _)
 
 pub unfit-call : (r : Row) → noneOr validEntry (rowEntry r) ≡ false → fits r ≡ false
 unfolding fits
 unfit-call r e = rw e (and-false (validRow r))
 
-pub empty-row-fits : (r : Row) → occupied (r .standing) ≡ false → fits r ≡ validStanding (r .leg) (r .presentation) (r .count) (r .digits) Empty
+pub empty-row-fits : (r : Row) → occupied (r .standing) ≡ false → fits r ≡ validStanding (r .leg) (r .number) Empty
 unfolding fits validRow
 empty-row-fits r t = rw (empty-standing (r .standing) t) (and-true _)
 

@@ -34,7 +34,7 @@ withLinkId l c = record { reference = c .reference; direction = c .direction; st
 -- ---- a row with its standing changed, by its leg and standing
 
 abbrev pub mapStanding : (ℕ → Standing → Standing) → Row → Row
-mapStanding f r = record { leg = r .leg; presentation = r .presentation; count = r .count; digits = r .digits; standing = f (r .leg) (r .standing) }
+mapStanding f r = record { leg = r .leg; number = r .number; standing = f (r .leg) (r .standing) }
 
 -- the call with that reference, changed
 abbrev pub changedCall : CallReference → (Call → Call) → ℕ → Standing → Standing

@@ -13,7 +13,7 @@ use Rattle.board.specs.Soundness.{validOptions}
 
 -- "empty (all else zero)"
 abbrev pub emptyRow : Row
-emptyRow = record { leg = 0; presentation = 0; count = 0; digits = replicate 15 0; standing = Empty }
+emptyRow = record { leg = 0; number = record { presentation = 0; count = 0; digits = replicate 15 0 }; standing = Empty }
 
 -- "64 rows, two options .. and the next LinkId candidate, 0 at first"
 abbrev pub emptyBoard : Options → Board

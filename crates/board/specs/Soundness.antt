@@ -10,6 +10,7 @@ use Rattle.octets.specs.Lists.{any, all, distinct}
 use Rattle.board.specs.declared.Call.{Call}
 use Rattle.board.specs.declared.Standing.{Standing}
 use Rattle.board.specs.declared.Standing.the-variants.{Empty, Served, Joined}
+use Rattle.board.specs.declared.PartyNumber.{PartyNumber}
 use Rattle.board.specs.declared.Row.{Row}
 use Rattle.board.specs.declared.Options.{Options}
 use Rattle.board.specs.declared.Board.{Board}
@@ -26,17 +27,21 @@ abbrev pub validDigits : ℕ → List ℕ → Bool
 validDigits n ds = eqb (length ds) 15 && leb n 15 && all (λ (d : ℕ). leb 48 d && leb d 57) (take n ds) && zeros (drop n ds)
 
 -- "presentation 1 (0 shown, 1 restricted)"
-abbrev pub validParty : ℕ → ℕ → List ℕ → Bool
-validParty presentation n ds = leb presentation 1 && validDigits n ds
+abbrev pub validNumber : PartyNumber → Bool
+validNumber n = leb (n .presentation) 1 && validDigits (n .count) (n .digits)
+
+-- "all else zero"
+abbrev pub zeroNumber : PartyNumber → Bool
+zeroNumber n = eqb (n .presentation) 0 && eqb (n .count) 0 && validDigits 0 (n .digits)
 
 -- "A row is empty (all else zero), or has a leg number .., its presentation, its digits, and one standing"
-abbrev pub validStanding : ℕ → ℕ → ℕ → List ℕ → Standing → Bool
-validStanding leg p n ds Empty = eqb leg 0 && eqb p 0 && eqb n 0 && validDigits 0 ds
-validStanding leg p n ds (Served c) = validParty p n ds
-validStanding leg p n ds (Joined q a) = validParty p n ds
+abbrev pub validStanding : ℕ → PartyNumber → Standing → Bool
+validStanding leg n Empty = eqb leg 0 && zeroNumber n
+validStanding leg n (Served c) = validNumber n
+validStanding leg n (Joined q a) = validNumber n
 
 unfoldable pub validRow : Row → Bool
-validRow r = validStanding (r .leg) (r .presentation) (r .count) (r .digits) (r .standing)
+validRow r = validStanding (r .leg) (r .number) (r .standing)
 
 abbrev pub validConnection : Connection → Bool
 validConnection (WithUser c) = validCall c

@@ -52,12 +52,17 @@ pub enum Standing {
     Joined { partner: u32, alerting: bool },
 }
 
-// A row: the leg number of a far party, its presentation (0 shown, 1 restricted), its digits, and its standing.
-pub struct Row {
-    pub leg: u32,
+// The number of a far party: its presentation (0 shown, 1 restricted), and as many digits as the count says.
+pub struct PartyNumber {
     pub presentation: u8,
     pub count: u8,
     pub digits: [u8; 15],
+}
+
+// A row: the leg number of a far party, its number, and beside it the standing.
+pub struct Row {
+    pub leg: u32,
+    pub number: PartyNumber,
     pub standing: Standing,
 }
 
@@ -148,11 +153,14 @@ pub enum Counted {
 pub fn empty_row() -> Row
     ensures { λ r. ⌜ r ≡ emptyRow ⌝ }
 {
-    Row {
-        leg: 0,
+    let number = PartyNumber {
         presentation: 0,
         count: 0,
         digits: [0u8; 15],
+    };
+    Row {
+        leg: 0,
+        number,
         standing: Standing::Empty,
     }
 }

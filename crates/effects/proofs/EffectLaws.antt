@@ -25,6 +25,7 @@ use Rattle.board.specs.declared.Direction.{Direction}
 use Rattle.board.specs.declared.Entry.{Entry}
 use Rattle.board.specs.declared.Options.{Options}
 use Rattle.board.specs.declared.Party.{Party}
+use Rattle.board.specs.declared.PartyNumber.{PartyNumber}
 use Rattle.board.specs.declared.Row.{Row}
 use Rattle.board.specs.declared.FoundEntry.{FoundEntry}
 use Rattle.board.specs.declared.FoundEntry.the-variants as found-entry
@@ -67,10 +68,10 @@ pub refused : (c : Refusal) {row : Row} {o : Out} → row ≡ emptyRow → o ≡
 unfolding replies
 refused c h e b = record { is = ap₂ (effect (Refused c) Stay) h e }
 
-pub opened-leg : (b : Board) (r l : ℕ) (d : Direction) (p n : ℕ) (ds : List ℕ) {row : Row} {o : Out} → row ≡ openedRow r l d p n ds → o ≡ rendered [] →
-    Carries (effect Accepted Enter row o) b (OpenLeg l (opened r d) p n ds)
+pub opened-leg : (b : Board) (r l : ℕ) (d : Direction) (n : PartyNumber) {row : Row} {o : Out} → row ≡ openedRow r l d n → o ≡ rendered [] →
+    Carries (effect Accepted Enter row o) b (OpenLeg l (opened r d) n)
 unfolding replies
-opened-leg b r l d p n ds h e = record { is = ap₂ (effect Accepted Enter) h e }
+opened-leg b r l d n h e = record { is = ap₂ (effect Accepted Enter) h e }
 
 -- an effect that enters no row, by what the code makes it of
 abbrev Made : Effect → Out → Deed → Type 0
@@ -130,7 +131,7 @@ module _ {e : Effect} {o : Out} where
 deed-board : (d : Decision) (b : Board) → boardBy (deedOf d) (rowOf d) b ≡ boardAfter d b
 unfolding boardAfter rowsAfter candidateAfter
 deed-board (Refuse c) b = refl
-deed-board (OpenLeg l c p n ds) b = refl
+deed-board (OpenLeg l c n) b = refl
 deed-board (SetState r s) b = refl
 deed-board (SetAuxiliary r a) b = refl
 deed-board (ReleaseLeg e) b = go (e .connection)

@@ -10,7 +10,7 @@ use Rattle.board.specs.Code.Keys.{matchesKey}
 use Rattle.board.specs.Lookup.{foundRow}
 use Rattle.board.specs.declared.Row.{Row}
 use Rattle.octets.specs.Lists.{find, orElse}
-use Rattle.rules.specs.Replies.{numberOfRow, numberAt}
+use Rattle.rules.specs.Replies.{numberAsTold, numberOfRow, numberAt}
 use Rattle.board.specs.declared.finding.Key.the-variants as key
 
 and-comm : (a b : Bool) → (a && b) ≡ (b && a)
@@ -23,9 +23,9 @@ row-at : (l : ℕ) (rows : List Row) → find (matchesKey (key.Leg l)) rows ≡ 
 row-at l [] = refl
 row-at l (x ∷ rows) = ap₂ (λ (b : Bool) (o : Option Row). orElse b x o) (and-comm (occupied (x .standing)) (eqb l (x .leg))) (row-at l rows)
 
-pub number-found : (l : ℕ) (rows : List Row) {row : Row} → row ≡ foundRow (find (matchesKey (key.Leg l)) rows) → numberOfRow (some row) ≡ numberAt rows l
-number-found l rows e = ap (λ (r : Row). numberOfRow (some r)) e ∙ go (find (matchesKey (key.Leg l)) rows) ∙ ap numberOfRow (row-at l rows)
+pub number-found : (l : ℕ) (rows : List Row) {row : Row} → row ≡ foundRow (find (matchesKey (key.Leg l)) rows) → numberAsTold (row .number) ≡ numberAt rows l
+number-found l rows e = ap (λ (r : Row). numberAsTold (r .number)) e ∙ go (find (matchesKey (key.Leg l)) rows) ∙ ap numberOfRow (row-at l rows)
   where
-    go : (o : Option Row) → numberOfRow (some (foundRow o)) ≡ numberOfRow o
+    go : (o : Option Row) → numberAsTold (foundRow o .number) ≡ numberOfRow o
     go none = refl
     go (some r) = refl

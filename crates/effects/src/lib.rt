@@ -10,6 +10,7 @@ use board::FoundEntry;
 use board::FoundParty;
 use board::OptionalLinkId;
 use board::Party;
+use board::PartyNumber;
 use board::Row;
 use board::Standing;
 use board::empty_row;
@@ -31,7 +32,7 @@ use replies::answer_told;
 use replies::drop_notice;
 use replies::gone;
 use replies::nothing;
-use replies::number_of;
+use replies::number_as_told;
 use replies::reply;
 use row_changes::change;
 use row_changes::is_delivered;
@@ -106,15 +107,8 @@ fn first_state(direction: Direction) -> CallState
     }
 }
 
-fn opened_row(
-    r: CallReference,
-    leg: u32,
-    d: Direction,
-    presentation: u8,
-    count: u8,
-    digits: [u8; 15],
-) -> Row
-    ensures { λ row. ⌜ row ≡ openedRow (r .0) leg d presentation count digits ⌝ }
+fn opened_row(r: CallReference, leg: u32, d: Direction, number: PartyNumber) -> Row
+    ensures { λ row. ⌜ row ≡ openedRow (r .0) leg d number ⌝ }
 {
     let state = first_state(d);
     let call = Call {
@@ -126,23 +120,13 @@ fn opened_row(
     };
     Row {
         leg,
-        presentation,
-        count,
-        digits,
+        number,
         standing: Standing::Served(call),
     }
 }
 
-fn open(
-    board: Board,
-    r: CallReference,
-    l: u32,
-    d: Direction,
-    p: u8,
-    n: u8,
-    digits: [u8; 15],
-) -> Effect
-    ensures { λ e. ⌜ Carries e board (openOn board (r .0) l d p n digits) ⌝ }
+fn open(board: Board, r: CallReference, l: u32, d: Direction, number: PartyNumber) -> Effect
+    ensures { λ e. ⌜ Carries e board (openOn board (r .0) l d number) ⌝ }
 {
     let survey = look_over(board, l, r);
     if survey.leg {
@@ -157,7 +141,7 @@ fn open(
     Effect {
         verdict: Verdict::Accepted,
         deed: Deed::Enter,
-        row: opened_row(r, l, d, p, n, digits),
+        row: opened_row(r, l, d, number),
         out: nothing(),
     }
 }
@@ -285,7 +269,9 @@ fn release(found: FoundEntry) -> Effect
 fn number_at(board: Board, leg: u32) -> Told
     ensures { λ r. ⌜ numberTold r ≡ numberAt (board .rows) leg ⌝ }
 {
-    number_of(find_row(board, Key::Leg(leg)))
+    let row = find_row(board, Key::Leg(leg));
+    let number = row.number;
+    number_as_told(number)
 }
 
 fn answer(board: Board, found: FoundEntry, leg: u32) -> Effect
@@ -389,15 +375,14 @@ pub fn effect_of(board: Board, event: &[u8]) -> Effect
             direction,
             presentation,
             count,
-        } => open(
-            board,
-            reference,
-            leg,
-            direction,
-            presentation,
-            count,
-            digits_of(event),
-        ),
+        } => {
+            let number = PartyNumber {
+                presentation,
+                count,
+                digits: digits_of(event),
+            };
+            open(board, reference, leg, direction, number)
+        }
         RequestHead::Progress(reference, state) => {
             progress(named(board, reference), reference, state)
         }

@@ -248,14 +248,14 @@ module _ {os : List ℕ} {r : ℕ} {v : Bool} (k : Referenced 36 os r v) where
 
 -- ---- Open
 open-is : {os : List ℕ} {r : ℕ} {v : Bool} → Referenced 25 os r v
-    → ofKind 1 (drop 1 os) ≡ ranged (cond (leb (getD os 7 0) 1) (Open r (field 3 4 os) (directionOf (getD os 7 0)) (getD os 8 0) (getD os 9 0) (drop 10 os)) (Malformed FieldOutOfRange))
+    → ofKind 1 (drop 1 os) ≡ ranged (cond (leb (getD os 7 0) 1) (Open r (field 3 4 os) (directionOf (getD os 7 0)) (record { presentation = getD os 8 0; count = getD os 9 0; digits = drop 10 os })) (Malformed FieldOutOfRange))
 open-is {os = []} k = absurd (omega (arith, k .long))
 open-is {os = o ∷ b} k = of-length (o ∷ b) 24 (openBody b) (k .long) ∙ rw (k .value)
 
 module _ {os : List ℕ} {r : ℕ} {v : Bool} (k : Referenced 25 os r v) where
   pub open-reference : not v ≡ true → RecordRead os (head.Malformed FieldOutOfRange) (ofKind 1 (drop 1 os))
   open-reference t =
-      let p : Refused (Open r (field 3 4 os) (directionOf (getD os 7 0)) (getD os 8 0) (getD os 9 0) (drop 10 os)) = record { is = rw (wrong k t) } in
+      let p : Refused (Open r (field 3 4 os) (directionOf (getD os 7 0)) (record { presentation = getD os 8 0; count = getD os 9 0; digits = drop 10 os })) = record { is = rw (wrong k t) } in
       malformed (open-is k ∙ either (leb (getD os 7 0) 1) p unlisted .is)
 
   pub open-direction : 1 < getD os 7 0 → RecordRead os (head.Malformed FieldOutOfRange) (ofKind 1 (drop 1 os))

@@ -11,15 +11,16 @@ use Rattle.board.specs.declared.CallState.{CallState}
 use Rattle.board.specs.declared.CallState.the-variants.{CallDelivered, Active}
 use Rattle.board.specs.declared.AuxiliaryState.{AuxiliaryState}
 use Rattle.board.specs.declared.AuxiliaryState.the-variants.{Idle, HoldRequest, CallHeld, RetrieveRequest}
+use Rattle.board.specs.declared.PartyNumber.{PartyNumber}
 use Rattle.board.specs.States.{validReference}
-use Rattle.board.specs.Soundness.{zeros, validParty}
+use Rattle.board.specs.Soundness.{zeros, validNumber}
 use Rattle.events.specs.declared.Refusal.{Refusal}
 use Rattle.events.specs.declared.Refusal.the-variants.{WrongLength, UnknownKind, FieldOutOfRange}
 
 -- what a record asks for, with the content of its body
 pub data Request : Type 0 where
   Malformed : Refusal → Request
-  Open : (reference leg : ℕ) → Direction → (presentation count : ℕ) (digits : List ℕ) → Request
+  Open : (reference leg : ℕ) → Direction → PartyNumber → Request
   Progress : (reference : ℕ) → CallState → Request
   Hold : (reference : ℕ) → AuxiliaryState → Request
   Release : (leg : ℕ) → Request
@@ -34,11 +35,15 @@ field i n body = numberOf (take n (drop i body))
 abbrev pub directionOf : ℕ → Direction
 directionOf n = cond (eqb n 0) Outgoing Incoming
 
--- "reference 2, leg 4, direction 1, presentation 1, digit count 1, 15 octets"
+-- "presentation 1, digit count 1, 15 octets", which end the body
+abbrev pub numberIn : List ℕ → PartyNumber
+numberIn b = record { presentation = getD b 7 0; count = getD b 8 0; digits = drop 9 b }
+
+-- "reference 2, leg 4, direction 1", then the number
 abbrev pub openBody : List ℕ → Request
 openBody b =
     cond (leb (getD b 6 0) 1)
-    (Open (field 0 2 b) (field 2 4 b) (directionOf (getD b 6 0)) (getD b 7 0) (getD b 8 0) (drop 9 b))
+    (Open (field 0 2 b) (field 2 4 b) (directionOf (getD b 6 0)) (numberIn b))
     (Malformed FieldOutOfRange)
 
 -- "reference 2, state 1: 4 or 10"
@@ -60,7 +65,7 @@ facilityBody r n c = cond (leb 1 n && leb n 32 && zeros (drop n c)) (Facility r 
 -- the fields that remain to be judged
 abbrev pub inRange : Request → Bool
 inRange (Malformed c) = true
-inRange (Open r l d p n ds) = validReference r && validParty p n ds
+inRange (Open r l d n) = validReference r && validNumber n
 inRange (Progress r s) = validReference r
 inRange (Hold r a) = validReference r
 inRange (Release l) = true

@@ -1,16 +1,15 @@
 // The reply records of one event: built by value, so that a refusal has written nothing.
-use board::Row;
+use board::PartyNumber;
 use component::Answer;
 use component::encode;
 use octets::CallReference;
 use octets::IntegerOctets;
 ghost use mathlib.Core.Path.{_≡_};
 ghost use mathlib.Core.List.{[], _∷_};
-ghost use mathlib.Core.Option.{some};
 ghost use Prim.Native.Nat.{_+_, _≤_};
 ghost use lib.ListN.{length};
 ghost use Rattle.octets.specs.Numbers.{four};
-ghost use Rattle.rules.specs.Replies.{Reply, Tell, Drop, Gone, markOnly, numberOfRow, told};
+ghost use Rattle.rules.specs.Replies.{Reply, Tell, Drop, Gone, markOnly, numberAsTold, told};
 ghost use Rattle.rules.specs.Replies.{facility, transferredActive};
 ghost use Rattle.replies.specs.Code.Writing.{Grown, Adds, rendered, numberTold, transferRecords};
 
@@ -60,20 +59,20 @@ fn unknown() -> Told
     mark_only(0)
 }
 
-// The number of a row's party. Digits that are restricted are withheld, so they never reach the octets.
-pub fn number_of(row: Row) -> Told
-    ensures { λ r. ⌜ numberTold r ≡ numberOfRow (some row) ⌝ }
+// A far party's number as it is told. Digits that are restricted are withheld, so they never reach the octets.
+pub fn number_as_told(number: PartyNumber) -> Told
+    ensures { λ r. ⌜ numberTold r ≡ numberAsTold number ⌝ }
 {
-    if row.count == 0 {
+    if number.count == 0 {
         return unknown();
     }
-    if row.presentation == 1 {
+    if number.presentation == 1 {
         return mark_only(2);
     }
-    let digits = row.digits;
+    let digits = number.digits;
     Told {
         mark: 1,
-        count: row.count,
+        count: number.count,
         digits,
     }
 }

@@ -19,7 +19,7 @@ use Rattle.row_changes.specs.Code.Named.{namedCall, subjectOf, concerns}
 use Rattle.board.specs.Changes.{mapStanding, changedCall, withState, withAuxiliary, withLinkId, joined, answered, rowAfter}
 
 abbrev pub withStanding : Standing → Row → Row
-withStanding s r = record { leg = r .leg; presentation = r .presentation; count = r .count; digits = r .digits; standing = s }
+withStanding s r = record { leg = r .leg; number = r .number; standing = s }
 
 pub standing-to : (f : ℕ → Standing → Standing) (row : Row) (s : Standing) → f (row .leg) (row .standing) ≡ s → withStanding s row ≡ mapStanding f row
 standing-to f row s e = ap (λ (t : Standing). withStanding t row) (sym e)

@@ -3,7 +3,7 @@ ghost use mathlib.Core.Path.{_≡_};
 ghost use Rattle.octets.specs.Tests.{noneOr};
 ghost use Rattle.board.specs.States.{sameAuxiliary, validDirection, holdable, validCall};
 ghost use Rattle.board.specs.Entries.{rowEntry};
-ghost use Rattle.board.specs.Soundness.{validDigits, validParty, validStanding, validEntry};
+ghost use Rattle.board.specs.Soundness.{validDigits, validNumber, validStanding, validEntry};
 ghost use Rattle.board.specs.Code.RowTests.{fits, clash, paired, takenRow};
 ghost use Rattle.board.specs.Code.Tallies.{rowTally};
 ghost use Rattle.row_tests.specs.Code.RowKeys.{bothSame};
@@ -12,6 +12,7 @@ use board::Call;
 use board::CallState;
 use board::Direction;
 use board::OptionalLinkId;
+use board::PartyNumber;
 use board::Row;
 use board::Standing;
 use board::Tally;
@@ -103,29 +104,30 @@ fn digits_valid(count: u8, digits: [u8; 15]) -> bool
 }
 
 fn empty_fits(row: Row) -> bool
-    ensures { λ r. ⌜ r ≡ validStanding (row .leg) (row .presentation) (row .count) (row .digits) Standing.Empty ⌝ }
+    ensures { λ r. ⌜ r ≡ validStanding (row .leg) (row .number) Standing.Empty ⌝ }
 {
-    let digits = row.digits;
-    if row.leg == 0 {} else {
+    let number = row.number;
+    let digits = number.digits;
+    if row.leg != 0 {
         return false;
     }
-    if row.presentation == 0 {} else {
+    if number.presentation != 0 {
         return false;
     }
-    if row.count == 0 {} else {
+    if number.count != 0 {
         return false;
     }
     digits_valid(0, digits)
 }
 
-fn party_fits(row: Row) -> bool
-    ensures { λ r. ⌜ r ≡ validParty (row .presentation) (row .count) (row .digits) ⌝ }
+fn number_fits(number: PartyNumber) -> bool
+    ensures { λ r. ⌜ r ≡ validNumber number ⌝ }
 {
-    let digits = row.digits;
-    if 1 < row.presentation {
+    let digits = number.digits;
+    if 1 < number.presentation {
         return false;
     }
-    digits_valid(row.count, digits)
+    digits_valid(number.count, digits)
 }
 
 pub fn is_taken(row: Row) -> bool
@@ -152,7 +154,8 @@ pub fn row_fits(row: Row) -> bool
 {
     if is_taken(row) {
         if call_fits(row) {
-            return party_fits(row);
+            let number = row.number;
+            return number_fits(number);
         }
         return false;
     }

@@ -7,6 +7,7 @@ use mathlib.Core.Option.{Option, some, none}
 use lib.Dec.{leb, eqb}
 use lib.ListN.{length}
 use lib.IntN.{ℤ}
+use Rattle.board.specs.declared.PartyNumber.{PartyNumber}
 use Rattle.board.specs.declared.Connection.{Connection}
 use Rattle.board.specs.declared.Connection.the-variants.{WithUser, WithPartner}
 use Rattle.board.specs.declared.Entry.{Entry}
@@ -103,8 +104,8 @@ refusal-not-0 refusal.NotPermitted = refl
 module _ (opt : Options) (z : ℤ) (w : Bool) (es : List Entry) where
   pub data Decided : Request → Decision → Type 0 where
     refuses : {q : Request} (c : Refusal) → Decided q (Refuse c)
-    opens-leg : {r l : ℕ} {d : Direction} {p n : ℕ} {ds : List ℕ} → any (hasLeg l) es ≡ false → any (hasReference r) es ≡ false → w ≡ false →
-        Decided (Open r l d p n ds) (OpenLeg l (opened r d) p n ds)
+    opens-leg : {r l : ℕ} {d : Direction} {n : PartyNumber} → any (hasLeg l) es ≡ false → any (hasReference r) es ≡ false → w ≡ false →
+        Decided (Open r l d n) (OpenLeg l (opened r d) n)
     sets-state : {r : ℕ} {s : CallState} {p : Party} → named r es ≡ some p → mayProgress (p .call .state) s ≡ true → Decided (Progress r s) (SetState r s)
     sets-auxiliary : {r : ℕ} {a : AuxiliaryState} {p : Party} → named r es ≡ some p → (holdable (p .call .state) && mayHold (p .call .auxiliary) a) ≡ true →
         Decided (Hold r a) (SetAuxiliary r a)
@@ -112,12 +113,12 @@ module _ (opt : Options) (z : ℤ) (w : Bool) (es : List Entry) where
     serves : {r : ℕ} {c : List ℕ} {p : Party} {v : Service} → List·Memᴰ p (calls es) → ComesTo opt z (calls es) p v → Decided (Facility r c) (ServeCall p v)
     ends-alerting : {l p : ℕ} → Decided (Answer l) (EndAlerting l p)
 
-  open-is : (r l : ℕ) (d : Direction) (p n : ℕ) (ds : List ℕ) (x y v : Bool) → any (hasLeg l) es ≡ x → any (hasReference r) es ≡ y → w ≡ v →
-      Decided (Open r l d p n ds) (decideOpen x y v (OpenLeg l (opened r d) p n ds))
-  open-is r l d p n ds true y v e f g = refuses _
-  open-is r l d p n ds false true v e f g = refuses _
-  open-is r l d p n ds false false true e f g = refuses _
-  open-is r l d p n ds false false false e f g = opens-leg e f g
+  open-is : (r l : ℕ) (d : Direction) (n : PartyNumber) (x y v : Bool) → any (hasLeg l) es ≡ x → any (hasReference r) es ≡ y → w ≡ v →
+      Decided (Open r l d n) (decideOpen x y v (OpenLeg l (opened r d) n))
+  open-is r l d n true y v e f g = refuses _
+  open-is r l d n false true v e f g = refuses _
+  open-is r l d n false false true e f g = refuses _
+  open-is r l d n false false false e f g = opens-leg e f g
 
   progress-is : (r : ℕ) (s : CallState) (o : Option Party) → named r es ≡ o → Decided (Progress r s) (decideProgress r s o)
   progress-is r s none e = refuses _
@@ -155,7 +156,7 @@ module _ (opt : Options) (z : ℤ) (w : Bool) (es : List Entry) where
   pub decided : (q : Request) → Decided q (decide opt z w es q)
   unfolding decide
   decided (Malformed c) = refuses c
-  decided (Open r l d p n ds) = open-is r l d p n ds (any (hasLeg l) es) (any (hasReference r) es) w refl refl refl
+  decided (Open r l d n) = open-is r l d n (any (hasLeg l) es) (any (hasReference r) es) w refl refl refl
   decided (Progress r s) = progress-is r s (named r es) refl
   decided (Hold r a) = hold-is r a (named r es) refl
   decided (Release l) = release-is l (entryAt l es) refl

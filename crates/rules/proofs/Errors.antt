@@ -55,7 +55,7 @@ well-released (WithPartner p a) h = true-not-false h refl
 well-done : (order : DropOrder) (b : Board) (d : Decision) → any errorRecord (replies order (b .rows) d) ≡ true → boardAfter d b ≡ b
 unfolding replies boardAfter rowsAfter candidateAfter
 well-done order b (Refuse c) h = refl
-well-done order b (OpenLeg l c p n ds) h = absurd (true-not-false h refl)
+well-done order b (OpenLeg l c n) h = absurd (true-not-false h refl)
 well-done order b (SetState r s) h = absurd (true-not-false h refl)
 well-done order b (SetAuxiliary r a) h = absurd (true-not-false h refl)
 well-done order b (ReleaseLeg e) h = absurd (well-released (e .connection) h)
@@ -65,7 +65,7 @@ well-done order b (EndAlerting l p) h = absurd (true-not-false h refl)
 untouched-done : (order : DropOrder) (b : Board) (d : Decision) → eqb (returnedBy d) 0 ≡ false → done order b d ≡ refused (returnedBy d) b
 unfolding boardAfter rowsAfter candidateAfter replies
 untouched-done order b (Refuse c) h = refl
-untouched-done order b (OpenLeg l c p n ds) h = absurd (true-not-false refl h)
+untouched-done order b (OpenLeg l c n) h = absurd (true-not-false refl h)
 untouched-done order b (SetState r s) h = absurd (true-not-false refl h)
 untouched-done order b (SetAuxiliary r a) h = absurd (true-not-false refl h)
 untouched-done order b (ReleaseLeg e) h = absurd (true-not-false refl h)

@@ -85,8 +85,8 @@ service-perm v h opt z c (some p) = ap (Decision.ServeCall p) (serve-perm v h op
 pub decide-perm : {l m : List Entry} → Sound l → Perm l m → (opt : Options) (z : ℤ) (full : Bool) (q : Request) → decide opt z full l q ≡ decide opt z full m q
 unfolding decide
 decide-perm v h opt z full (Malformed c) = refl
-decide-perm v h opt z full (Open r l d p n ds) =
-    ap₂ (λ (x y : Bool). decideOpen x y full (OpenLeg l (opened r d) p n ds)) (any-perm (hasLeg l) h) (any-perm (hasReference r) h)
+decide-perm v h opt z full (Open r l d n) =
+    ap₂ (λ (x y : Bool). decideOpen x y full (OpenLeg l (opened r d) n)) (any-perm (hasLeg l) h) (any-perm (hasReference r) h)
 decide-perm v h opt z full (Progress r t) = ap (decideProgress r t) (named-perm v h r)
 decide-perm v h opt z full (Hold r x) = ap (decideHold r x) (named-perm v h r)
 decide-perm v h opt z full (Release l) = ap decideRelease (entry-perm v h l)

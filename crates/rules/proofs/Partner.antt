@@ -48,7 +48,7 @@ serviceJoinsFrom l (Transfer p q c) now = cond (eqb l (p .leg)) (some (q .leg)) 
 
 abbrev pub joins : ℕ → Decision → Option ℕ → Option ℕ
 joins l (Refuse c) now = now
-joins l (OpenLeg m c p n ds) now = cond (eqb l m) none now
+joins l (OpenLeg m c n) now = cond (eqb l m) none now
 joins l (SetState r s) now = now
 joins l (SetAuxiliary r a) now = now
 joins l (ReleaseLeg e) now = now
@@ -174,7 +174,7 @@ shape-there es l (some m) h = any-of (hasLeg l) (h .1) (eqb-self l)
 -- a transfer joins, whatever there was before
 pub joins-some : (l m : ℕ) (now : Option ℕ) (d : Decision) → joinsTo l d ≡ some m → joins l d now ≡ some m
 joins-some l m now (Refuse c) h = let z : _≡_ {A = ℕ} 0 1 = cc in absurd (omega arith)
-joins-some l m now (OpenLeg n c p k ds) h = let z : _≡_ {A = ℕ} 0 1 = cc in absurd (omega arith)
+joins-some l m now (OpenLeg n c k) h = let z : _≡_ {A = ℕ} 0 1 = cc in absurd (omega arith)
 joins-some l m now (SetState r s) h = let z : _≡_ {A = ℕ} 0 1 = cc in absurd (omega arith)
 joins-some l m now (SetAuxiliary r a) h = let z : _≡_ {A = ℕ} 0 1 = cc in absurd (omega arith)
 joins-some l m now (ReleaseLeg e) h = let z : _≡_ {A = ℕ} 0 1 = cc in absurd (omega arith)
@@ -191,7 +191,7 @@ joins-some l m now (EndAlerting n p) h = let z : _≡_ {A = ℕ} 0 1 = cc in abs
 
 joins-none : (l : ℕ) (d : Decision) → joinsTo l d ≡ none → joins l d none ≡ none
 joins-none l (Refuse c) h = refl
-joins-none l (OpenLeg m c p n ds) h = go (eqb l m)
+joins-none l (OpenLeg m c n) h = go (eqb l m)
   where
     go : (b : Bool) → cond {A = Option ℕ} b none none ≡ none
     go true = refl

@@ -7,6 +7,7 @@ use mathlib.Core.List.{_++_, _∷_, List, []}
 use mathlib.Core.Option.{Option, none, some}
 use lib.Dec.{eqb, leb, ltb}
 use lib.ListN.{length, length-append, replicate, length-replicate, take}
+use Rattle.board.specs.declared.PartyNumber.{PartyNumber}
 use Rattle.board.specs.declared.Connection.{Connection}
 use Rattle.board.specs.declared.Connection.the-variants.{WithUser, WithPartner}
 use Rattle.board.specs.Entries.{occupied}
@@ -49,10 +50,10 @@ fifteen n ds h =
     (left (eqb (length ds) 15 && leb n 15) _
     (left (eqb (length ds) 15 && leb n 15 && all (λ (d : ℕ). leb 48 d && leb d 57) (take n ds)) _ h)))
 
-row-digits : (l p n : ℕ) (ds : List ℕ) (t : Standing) → occupied t ≡ true → validStanding l p n ds t ≡ true → length ds ≡ 15
-row-digits l p n ds Empty o h = absurd (true-not-false o refl)
-row-digits l p n ds (Served c) o h = fifteen n ds (right (leb p 1) (validDigits n ds) h)
-row-digits l p n ds (Joined q a) o h = fifteen n ds (right (leb p 1) (validDigits n ds) h)
+row-digits : (l : ℕ) (n : PartyNumber) (t : Standing) → occupied t ≡ true → validStanding l n t ≡ true → length (n .digits) ≡ 15
+row-digits l n Empty o h = absurd (true-not-false o refl)
+row-digits l n (Served c) o h = fifteen (n .count) (n .digits) (right (leb (n .presentation) 1) (validDigits (n .count) (n .digits)) h)
+row-digits l n (Joined q a) o h = fifteen (n .count) (n .digits) (right (leb (n .presentation) 1) (validDigits (n .count) (n .digits)) h)
 
 number-length : (rows : List Row) → all validRow rows ≡ true → (l : ℕ) → length (numberAt rows l .digits) ≡ 15
 unfolding validRow
@@ -61,8 +62,8 @@ number-length rows k l = go (find at-leg rows) refl
     at-leg : Row → Bool
     at-leg r = eqb l (r .leg) && occupied (r .standing)
 
-    chosen : (x y : Bool) (r : Row) → length (r .digits) ≡ 15 →
-        length ((cond {A = Number} x (markOnly 0) (cond y (markOnly 2) (record { mark = 1; count = r .count; digits = r .digits }))) .digits) ≡ 15
+    chosen : (x y : Bool) (n : PartyNumber) → length (n .digits) ≡ 15 →
+        length ((cond {A = Number} x (markOnly 0) (cond y (markOnly 2) (record { mark = 1; count = n .count; digits = n .digits }))) .digits) ≡ 15
     chosen true y r h = refl
     chosen false true r h = refl
     chosen false false r h = h
@@ -71,8 +72,8 @@ number-length rows k l = go (find at-leg rows) refl
     go none e = refl
     go (some r) e =
         let f = find-mem at-leg rows e in
-        chosen (eqb (r .count) 0) (eqb (r .presentation) 1) r
-        (row-digits (r .leg) (r .presentation) (r .count) (r .digits) (r .standing) (right (eqb l (r .leg)) (occupied (r .standing)) (f .1)) (all-at validRow (f .0) k))
+        chosen (eqb (r .number .count) 0) (eqb (r .number .presentation) 1) (r .number)
+        (row-digits (r .leg) (r .number) (r .standing) (right (eqb l (r .leg)) (occupied (r .standing)) (f .1)) (all-at validRow (f .0) k))
 
 told-length : (l : ℕ) (a b : Bool) (n : Number) → length (n .digits) ≡ 15 → length (recordOctets (told l a b n)) ≡ 25
 told-length l false false n h = omega arith
@@ -120,7 +121,7 @@ release-length (WithPartner p a) = omega arith
 replies-length : (order : DropOrder) (rows : List Row) → all validRow rows ≡ true → (d : Decision) → length (octets (replies order rows d)) ≤ 92
 unfolding octets replies
 replies-length order rows k (Refuse c) = zero-le
-replies-length order rows k (OpenLeg l c p n ds) = zero-le
+replies-length order rows k (OpenLeg l c n) = zero-le
 replies-length order rows k (SetState r s) = zero-le
 replies-length order rows k (SetAuxiliary r a) = zero-le
 replies-length order rows k (ReleaseLeg e) = release-length (e .connection)

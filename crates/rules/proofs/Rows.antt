@@ -9,6 +9,7 @@ use lib.Dec.{eqb, leb, leb·suc-suc}
 use lib.Arith.{lt→nleb}
 use lib.ListN.{length, length-map}
 use lib.IntN.{ℤ}
+use Rattle.board.specs.declared.PartyNumber.{PartyNumber}
 use Rattle.board.specs.Changes.{changedCall, joined, answered, emptiedIf, changedRows, rowAfter, enter, full, enterAt, withLinkId, withState, withAuxiliary, mapStanding}
 use Rattle.board.specs.declared.Connection.{Connection}
 use Rattle.board.specs.declared.Connection.the-variants.{WithPartner, WithUser}
@@ -16,7 +17,7 @@ use Rattle.board.specs.declared.Entry.{Entry}
 use Rattle.board.specs.declared.Party.{Party}
 use Rattle.board.specs.Entries.{taken, rowEntry, entryOf, occupied}
 use Rattle.board.specs.Making.{emptyRow}
-use Rattle.board.specs.Soundness.{validDigits, validStanding, validRow}
+use Rattle.board.specs.Soundness.{validNumber, validStanding, validRow}
 use Rattle.board.specs.States.{delivered, validReference}
 use Rattle.board.specs.declared.Call.{Call}
 use Rattle.board.specs.declared.Change.the-variants.{ReleasePair}
@@ -81,7 +82,7 @@ emptied-shown e r b h l = go b (r .standing) h
     same x k c u = ap (λ (d : Bool). consIf d x (keep (stays e) l)) (sym u)
 
     go : (b : Bool) (t : Standing) → stays e (record { leg = r .leg; connection = e .connection }) ≡ not b →
-        consOpt (rowEntry (emptiedIf b (record { leg = r .leg; presentation = r .presentation; count = r .count; digits = r .digits; standing = t }))) (keep (stays e) l)
+        consOpt (rowEntry (emptiedIf b (record { leg = r .leg; number = r .number; standing = t }))) (keep (stays e) l)
         ≡ keep (stays e) (consOpt (entryOf (r .leg) t) l)
     go true Empty u = refl
     go true (Served c) u = same (record { leg = r .leg; connection = WithUser c }) _ false u
@@ -114,7 +115,7 @@ enter-shown new c (r ∷ rs) h k = go (r .standing) k (enter-shown new c rs h)
     later e p = p-trans (p-skip p) p-swap
 
     go : (t : Standing) → not (not (occupied t) || any (λ (r : Row). not (occupied (r .standing))) rs) ≡ false → (full rs ≡ false → Perm (taken (enter new rs)) (mine ∷ taken rs)) →
-        Perm (taken (enterAt (occupied t) new (record { leg = r .leg; presentation = r .presentation; count = r .count; digits = r .digits; standing = t }) rs (enter new rs))) (mine ∷ consOpt (entryOf (r .leg) t) (taken rs))
+        Perm (taken (enterAt (occupied t) new (record { leg = r .leg; number = r .number; standing = t }) rs (enter new rs))) (mine ∷ consOpt (entryOf (r .leg) t) (taken rs))
     go Empty k f = p-of (ap (λ (o : Option Entry). consOpt o (taken rs)) (ap (entryOf (new .leg)) h))
     go (Served d) k f = later (record { leg = r .leg; connection = WithUser d }) (f k)
     go (Joined p a) k f = later (record { leg = r .leg; connection = WithPartner p a }) (f k)
@@ -146,7 +147,7 @@ full-is (r ∷ rs) = go (r .standing) (full-is rs)
 
 abbrev pub Fine : Bool → Decision → Type 0
 Fine w (Refuse c) = Unit {0}
-Fine w (OpenLeg l c p n ds) = (w ≡ false) × ((leb p 1 && validDigits n ds) ≡ true)
+Fine w (OpenLeg l c n) = (w ≡ false) × (validNumber n ≡ true)
 Fine w (SetState r s) = Unit {0}
 Fine w (SetAuxiliary r a) = Unit {0}
 Fine w (ReleaseLeg e) = Unit {0}
@@ -177,7 +178,7 @@ service-view p (Transfer x y i) rows = taken-map _ _ (λ r. join-shown (x .leg) 
 pub view : (d : Decision) (rows : List Row) → Fine (full rows) d → Perm (taken (rowsAfter d rows)) (entriesAfter d (taken rows))
 unfolding rowsAfter entriesAfter changedRows rowAfter
 view (Refuse c) rows h = p-refl (taken rows)
-view (OpenLeg l c p n ds) rows h = enter-shown (record { leg = l; presentation = p; count = n; digits = ds; standing = Served c }) c rows refl (h .0)
+view (OpenLeg l c n) rows h = enter-shown (record { leg = l; number = n; standing = Served c }) c rows refl (h .0)
 view (SetState r s) rows h = p-of (taken-map _ _ (λ x. call-shown (record { 0 = r }) (withState s) (x .leg) (x .standing)) rows)
 view (SetAuxiliary r a) rows h = p-of (taken-map _ _ (λ x. call-shown (record { 0 = r }) (withAuxiliary a) (x .leg) (x .standing)) rows)
 view (ReleaseLeg e) rows h = p-of (release-view (e .leg) (e .connection) rows)
@@ -193,7 +194,7 @@ service-perm p (Transfer x y i) h = map-perm (mapConnection (joinLegs (x .leg) (
 pub after-perm : (d : Decision) {l m : List Entry} → Perm l m → Perm (entriesAfter d l) (entriesAfter d m)
 unfolding entriesAfter
 after-perm (Refuse c) h = h
-after-perm (OpenLeg l c p n ds) h = p-skip h
+after-perm (OpenLeg l c n) h = p-skip h
 after-perm (SetState r s) h = map-perm (mapConnection (changeCall r (withState s))) h
 after-perm (SetAuxiliary r a) h = map-perm (mapConnection (changeCall r (withAuxiliary a))) h
 after-perm (ReleaseLeg e) h = keep-perm (stays e) h
@@ -209,7 +210,7 @@ service-candidate (Transfer p q i) z = refl
 pub candidate-same : (d : Decision) (z : LinkId) → candidateAfter d z .0 ≡ candidateMoves d (z .0)
 unfolding candidateAfter candidateMoves
 candidate-same (Refuse c) z = refl
-candidate-same (OpenLeg l c p n ds) z = refl
+candidate-same (OpenLeg l c n) z = refl
 candidate-same (SetState r s) z = refl
 candidate-same (SetAuxiliary r a) z = refl
 candidate-same (ReleaseLeg e) z = refl
@@ -236,7 +237,7 @@ service-length p (Transfer x y i) rows = length-map rows _
 pub rows-length : (d : Decision) (rows : List Row) → length (rowsAfter d rows) ≡ length rows
 unfolding rowsAfter changedRows
 rows-length (Refuse c) rows = refl
-rows-length (OpenLeg l c p n ds) rows = enter-length _ rows
+rows-length (OpenLeg l c n) rows = enter-length _ rows
 rows-length (SetState r s) rows = length-map rows _
 rows-length (SetAuxiliary r a) rows = length-map rows _
 rows-length (ReleaseLeg e) rows = length-map rows _
@@ -245,30 +246,30 @@ rows-length (EndAlerting l p) rows = length-map rows _
 
 -- ---- the rows' own fields stay right
 
-restand-right : (f : ℕ → Standing → Standing) → ((l p n : ℕ) (ds : List ℕ) (t : Standing) → validStanding l p n ds (f l t) ≡ validStanding l p n ds t) → (rows : List Row) →
+restand-right : (f : ℕ → Standing → Standing) → ((l : ℕ) (n : PartyNumber) (t : Standing) → validStanding l n (f l t) ≡ validStanding l n t) → (rows : List Row) →
     all validRow rows ≡ true → all validRow (map (mapStanding f) rows) ≡ true
 unfolding validRow
-restand-right f h rows k = all-map validRow (mapStanding f) rows ∙ all-ext (λ (r : Row). validRow (mapStanding f r)) validRow rows (λ r. h (r .leg) (r .presentation) (r .count) (r .digits) (r .standing)) ∙ k
+restand-right f h rows k = all-map validRow (mapStanding f) rows ∙ all-ext (λ (r : Row). validRow (mapStanding f r)) validRow rows (λ r. h (r .leg) (r .number) (r .standing)) ∙ k
 
-call-right : (r : CallReference) (f : Call → Call) (l p n : ℕ) (ds : List ℕ) (t : Standing) → validStanding l p n ds (changedCall r f l t) ≡ validStanding l p n ds t
-call-right r f l p n ds Empty = refl
-call-right r f l p n ds (Served c) = refl
-call-right r f l p n ds (Joined q a) = refl
+call-right : (r : CallReference) (f : Call → Call) (l : ℕ) (n : PartyNumber) (t : Standing) → validStanding l n (changedCall r f l t) ≡ validStanding l n t
+call-right r f l n Empty = refl
+call-right r f l n (Served c) = refl
+call-right r f l n (Joined q a) = refl
 
-join-right : (a b l p n : ℕ) (ds : List ℕ) (t : Standing) → validStanding l p n ds (joined a b l t) ≡ validStanding l p n ds t
-join-right a b l p n ds Empty = refl
-join-right a b l p n ds (Served c) = go (eqb a l) (eqb b l)
+join-right : (a b l : ℕ) (n : PartyNumber) (t : Standing) → validStanding l n (joined a b l t) ≡ validStanding l n t
+join-right a b l n Empty = refl
+join-right a b l n (Served c) = go (eqb a l) (eqb b l)
   where
-    go : (x y : Bool) → validStanding l p n ds (cond x (Joined b (delivered c)) (cond y (Joined a (delivered c)) (Served c))) ≡ (leb p 1 && validDigits n ds)
+    go : (x y : Bool) → validStanding l n (cond x (Joined b (delivered c)) (cond y (Joined a (delivered c)) (Served c))) ≡ validNumber n
     go true y = refl
     go false true = refl
     go false false = refl
-join-right a b l p n ds (Joined q x) = refl
+join-right a b l n (Joined q x) = refl
 
-stop-right : (m l p n : ℕ) (ds : List ℕ) (t : Standing) → validStanding l p n ds (answered m l t) ≡ validStanding l p n ds t
-stop-right m l p n ds Empty = refl
-stop-right m l p n ds (Served c) = refl
-stop-right m l p n ds (Joined q a) = refl
+stop-right : (m l : ℕ) (n : PartyNumber) (t : Standing) → validStanding l n (answered m l t) ≡ validStanding l n t
+stop-right m l n Empty = refl
+stop-right m l n (Served c) = refl
+stop-right m l n (Joined q a) = refl
 
 empty-right : validRow emptyRow ≡ true
 unfolding validRow
@@ -305,7 +306,7 @@ service-right p (Transfer x y i) rows k = restand-right _ (join-right (x .leg) (
 pub rows-right : (w : Bool) (d : Decision) (rows : List Row) → Fine w d → all validRow rows ≡ true → all validRow (rowsAfter d rows) ≡ true
 unfolding rowsAfter validRow changedRows rowAfter
 rows-right w (Refuse c) rows h k = k
-rows-right w (OpenLeg l c p n ds) rows h k = enter-right (record { leg = l; presentation = p; count = n; digits = ds; standing = Served c }) rows (h .1) k
+rows-right w (OpenLeg l c n) rows h k = enter-right (record { leg = l; number = n; standing = Served c }) rows (h .1) k
 rows-right w (SetState r s) rows h k = restand-right _ (call-right (record { 0 = r }) (withState s)) rows k
 rows-right w (SetAuxiliary r a) rows h k = restand-right _ (call-right (record { 0 = r }) (withAuxiliary a)) rows k
 rows-right w (ReleaseLeg e) rows h k = release-right (e .leg) (e .connection) rows k

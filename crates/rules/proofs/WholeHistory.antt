@@ -34,7 +34,7 @@ use Rattle.events.specs.declared.Refusal.the-variants as refusal
 refused-after : (d : Decision) (k : Book) → eqb (returnedBy d) 0 ≡ false → bookAfter d k ≡ k
 unfolding bookAfter entriesAfter candidateMoves
 refused-after (Refuse c) k h = refl
-refused-after (OpenLeg l c p n ds) k h = absurd (true-not-false refl h)
+refused-after (OpenLeg l c n) k h = absurd (true-not-false refl h)
 refused-after (SetState r s) k h = absurd (true-not-false refl h)
 refused-after (SetAuxiliary r a) k h = absurd (true-not-false refl h)
 refused-after (ReleaseLeg e) k h = absurd (true-not-false refl h)

@@ -72,7 +72,7 @@ serviceEntries p (Transfer x y i) es = map (mapConnection (joinLegs (x .leg) (y 
 -- "Open enters the leg and its call."
 unfoldable pub entriesAfter : Decision → List Entry → List Entry
 entriesAfter (Refuse c) es = es
-entriesAfter (OpenLeg l c p n ds) es = record { leg = l; connection = WithUser c } ∷ es
+entriesAfter (OpenLeg l c n) es = record { leg = l; connection = WithUser c } ∷ es
 entriesAfter (SetState r s) es = map (mapConnection (changeCall r (withState s))) es
 entriesAfter (SetAuxiliary r a) es = map (mapConnection (changeCall r (withAuxiliary a))) es
 entriesAfter (ReleaseLeg e) es = keep (stays e) es
@@ -89,7 +89,7 @@ serviceMoves (Transfer p q i) z = z
 
 unfoldable pub candidateMoves : Decision → ℤ → ℤ
 candidateMoves (Refuse c) z = z
-candidateMoves (OpenLeg l c p n ds) z = z
+candidateMoves (OpenLeg l c n) z = z
 candidateMoves (SetState r s) z = z
 candidateMoves (SetAuxiliary r a) z = z
 candidateMoves (ReleaseLeg e) z = z

@@ -16,6 +16,7 @@ use Rattle.board.specs.declared.AuxiliaryState.{AuxiliaryState}
 use Rattle.board.specs.declared.AuxiliaryState.the-variants.{Idle, HoldRequest, CallHeld, RetrieveRequest}
 use Rattle.board.specs.declared.OptionalLinkId.the-variants.{Absent}
 use Rattle.board.specs.declared.Call.{Call}
+use Rattle.board.specs.declared.PartyNumber.{PartyNumber}
 use Rattle.board.specs.declared.Options.{Options}
 use Rattle.board.specs.States.{holdable}
 use Rattle.board.specs.declared.Connection.{Connection}
@@ -31,8 +32,8 @@ use Rattle.rules.specs.Serving.{Service, serve}
 
 pub data Decision : Type 0 where
   Refuse : Refusal → Decision
-  -- Open: a leg with its call, presentation and digits
-  OpenLeg : (leg : ℕ) → Call → (presentation count : ℕ) (digits : List ℕ) → Decision
+  -- Open: a leg with its call and number
+  OpenLeg : (leg : ℕ) → Call → PartyNumber → Decision
   -- Progress and Hold: of the call with a reference
   SetState : (reference : ℕ) → CallState → Decision
   SetAuxiliary : (reference : ℕ) → AuxiliaryState → Decision
@@ -139,7 +140,7 @@ decideOpen legThere referenceThere full d =
 -- by the options, the candidate, whether no row is empty, and the entries
 unfoldable pub decide : Options → ℤ → Bool → List Entry → Request → Decision
 decide o z full es (Malformed c) = Refuse c
-decide o z full es (Open r l d p n ds) = decideOpen (any (hasLeg l) es) (any (hasReference r) es) full (OpenLeg l (opened r d) p n ds)
+decide o z full es (Open r l d n) = decideOpen (any (hasLeg l) es) (any (hasReference r) es) full (OpenLeg l (opened r d) n)
 decide o z full es (Progress r s) = decideProgress r s (named r es)
 decide o z full es (Hold r a) = decideHold r a (named r es)
 decide o z full es (Release l) = decideRelease (entryAt l es)
@@ -149,7 +150,7 @@ decide o z full es (Answer l) = decideAnswer l (entryAt l es)
 -- "Accepted events return 0"
 abbrev pub returnedBy : Decision → ℕ
 returnedBy (Refuse c) = refusalNumber c
-returnedBy (OpenLeg l c p n ds) = 0
+returnedBy (OpenLeg l c n) = 0
 returnedBy (SetState r s) = 0
 returnedBy (SetAuxiliary r a) = 0
 returnedBy (ReleaseLeg e) = 0

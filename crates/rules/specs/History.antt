@@ -81,7 +81,7 @@ accepted (n ∷ ns) (e ∷ es) = cond (eqb n 0) (e ∷ accepted ns es) (accepted
 -- "An accepted Open opens its leg"
 abbrev pub opensLeg : ℕ → Request → Bool
 opensLeg l (Malformed c) = false
-opensLeg l (Open r m d p n ds) = eqb l m
+opensLeg l (Open r m d n) = eqb l m
 opensLeg l (Progress r s) = false
 opensLeg l (Hold r a) = false
 opensLeg l (Release m) = false
@@ -98,7 +98,7 @@ joinedWith l m e = hasLeg l e && isPartner m (e .connection)
 -- "an accepted Release ends it": the leg, "or the party it was joined with at that moment"
 abbrev pub endsLeg : List Entry → ℕ → Request → Bool
 endsLeg es l (Malformed c) = false
-endsLeg es l (Open r m d p n ds) = false
+endsLeg es l (Open r m d n) = false
 endsLeg es l (Progress r s) = false
 endsLeg es l (Hold r a) = false
 endsLeg es l (Release m) = eqb l m || any (joinedWith l m) es
@@ -117,7 +117,7 @@ serviceJoins l (Transfer p q i) = cond (eqb l (p .leg)) (some (q .leg)) (cond (e
 
 abbrev pub joinsTo : ℕ → Decision → Option ℕ
 joinsTo l (Refuse c) = none
-joinsTo l (OpenLeg m c p n ds) = none
+joinsTo l (OpenLeg m c n) = none
 joinsTo l (SetState r s) = none
 joinsTo l (SetAuxiliary r a) = none
 joinsTo l (ReleaseLeg e) = none

@@ -9,6 +9,7 @@ use Rattle.octets.specs.Lists.{find}
 use Rattle.octets.specs.Numbers.{two, four}
 use Rattle.component.specs.declared.Answer.{Answer}
 use Rattle.component.specs.Answers.{answerOctets}
+use Rattle.board.specs.declared.PartyNumber.{PartyNumber}
 use Rattle.board.specs.declared.Row.{Row}
 use Rattle.board.specs.States.{delivered}
 use Rattle.board.specs.declared.Party.{Party}
@@ -50,12 +51,15 @@ octets (r ∷ rs) = recordOctets r ++ octets rs
 abbrev pub markOnly : ℕ → Number
 markOnly m = record { mark = m; count = 0; digits = replicate 15 0 }
 
+abbrev pub numberAsTold : PartyNumber → Number
+numberAsTold n =
+    cond (eqb (n .count) 0) (markOnly 0)
+    (cond (eqb (n .presentation) 1) (markOnly 2)
+    (record { mark = 1; count = n .count; digits = n .digits }))
+
 abbrev pub numberOfRow : Option Row → Number
 numberOfRow none = markOnly 0
-numberOfRow (some r) =
-    cond (eqb (r .count) 0) (markOnly 0)
-    (cond (eqb (r .presentation) 1) (markOnly 2)
-    (record { mark = 1; count = r .count; digits = r .digits }))
+numberOfRow (some r) = numberAsTold (r .number)
 
 -- the number of the party at a leg
 abbrev pub numberAt : List Row → ℕ → Number

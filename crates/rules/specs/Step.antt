@@ -42,7 +42,7 @@ serviceRows p (Transfer x y i) rows = changedRows (change.Join (x .leg) (y .leg)
 
 unfoldable pub rowsAfter : Decision → List Row → List Row
 rowsAfter (Refuse c) rows = rows
-rowsAfter (OpenLeg l c p n ds) rows = enter (record { leg = l; presentation = p; count = n; digits = ds; standing = Served c }) rows
+rowsAfter (OpenLeg l c n) rows = enter (record { leg = l; number = n; standing = Served c }) rows
 rowsAfter (SetState r s) rows = changedRows (change.SetState (record { 0 = r }) s) rows
 rowsAfter (SetAuxiliary r a) rows = changedRows (change.SetAuxiliary (record { 0 = r }) a) rows
 rowsAfter (ReleaseLeg e) rows = changedRows (releaseOf (e .leg) (e .connection)) rows
@@ -59,7 +59,7 @@ serviceCandidate (Transfer p q i) z = z
 
 unfoldable pub candidateAfter : Decision → LinkId → LinkId
 candidateAfter (Refuse c) z = z
-candidateAfter (OpenLeg l c p n ds) z = z
+candidateAfter (OpenLeg l c n) z = z
 candidateAfter (SetState r s) z = z
 candidateAfter (SetAuxiliary r a) z = z
 candidateAfter (ReleaseLeg e) z = z
@@ -87,7 +87,7 @@ serviceReplies order rows r (Transfer p q i) =
 -- "Open, Progress and Hold write nothing"
 unfoldable pub replies : DropOrder → List Row → Decision → List ReplyRecord
 replies order rows (Refuse c) = []
-replies order rows (OpenLeg l c p n ds) = []
+replies order rows (OpenLeg l c n) = []
 replies order rows (SetState r s) = []
 replies order rows (SetAuxiliary r a) = []
 replies order rows (ReleaseLeg e) = releaseReplies (e .connection)

@@ -25,7 +25,7 @@ use Rattle.board.specs.declared.FoundParty.the-variants as found-party
 
 -- what lies past the end of the rows
 abbrev pub noRow : Row
-noRow = record { leg = 0; presentation = 0; count = 0; digits = []; standing = Empty }
+noRow = record { leg = 0; number = record { presentation = 0; count = 0; digits = [] }; standing = Empty }
 
 pub party-in : (row : Row) → rowParty row ≡ partyIn row
 party-in row = go (row .standing)

@@ -18,7 +18,7 @@ returns c =
     let s = c .before .before .before .args in
     let look = c .before .before .look-over .ensures in
     open-leg-there (any (hasLeg (s .l)) (taken (s .board .rows))) (any (hasReference (s .r .0)) (taken (s .board .rows))) (full (s .board .rows))
-    (OpenLeg (s .l) (opened (s .r .0) (s .d)) (s .p) (s .n) (s .digits))
+    (OpenLeg (s .l) (opened (s .r .0) (s .d)) (s .number))
     (leg-seen (s .l) (s .r) (s .board .rows) look (c .before .if1 .taken))
     (c .refuse .ensures (s .board))
 
@@ -30,7 +30,7 @@ returns-2 c =
     let s = c .before .before .before .before .args in
     let look = c .before .before .before .look-over .ensures in
     open-reference-there (any (hasLeg (s .l)) (taken (s .board .rows))) (any (hasReference (s .r .0)) (taken (s .board .rows))) (full (s .board .rows))
-    (OpenLeg (s .l) (opened (s .r .0) (s .d)) (s .p) (s .n) (s .digits))
+    (OpenLeg (s .l) (opened (s .r .0) (s .d)) (s .number))
     (leg-seen (s .l) (s .r) (s .board .rows) look (c .before .before .if1 .left))
     (reference-seen (s .l) (s .r) (s .board .rows) look (c .before .if2 .taken))
     (c .refuse2 .ensures (s .board))
@@ -43,7 +43,7 @@ returns-3 c =
     let s = c .before .before .before .before .before .before .args in
     let look = c .before .before .before .before .before .look-over .ensures in
     open-full (any (hasLeg (s .l)) (taken (s .board .rows))) (any (hasReference (s .r .0)) (taken (s .board .rows))) (full (s .board .rows))
-    (OpenLeg (s .l) (opened (s .r .0) (s .d)) (s .p) (s .n) (s .digits))
+    (OpenLeg (s .l) (opened (s .r .0) (s .d)) (s .number))
     (leg-seen (s .l) (s .r) (s .board .rows) look (c .before .before .before .before .if1 .left))
     (reference-seen (s .l) (s .r) (s .board .rows) look (c .before .before .before .if2 .left))
     (full-seen (s .l) (s .r) (s .board .rows) look (c .before .if3 .taken))
@@ -60,11 +60,11 @@ returns-4 c =
     let s = c .before .before .before .before .before .before .before .args in
     let look = c .before .before .before .before .before .before .look-over .ensures in
     open-done (any (hasLeg (s .l)) (taken (s .board .rows))) (any (hasReference (s .r .0)) (taken (s .board .rows))) (full (s .board .rows))
-    (OpenLeg (s .l) (opened (s .r .0) (s .d)) (s .p) (s .n) (s .digits))
+    (OpenLeg (s .l) (opened (s .r .0) (s .d)) (s .number))
     (leg-seen (s .l) (s .r) (s .board .rows) look (c .before .before .before .before .before .if1 .left))
     (reference-seen (s .l) (s .r) (s .board .rows) look (c .before .before .before .before .if2 .left))
     (full-seen (s .l) (s .r) (s .board .rows) look (c .before .before .if3 .left))
-    (opened-leg (s .board) (s .r .0) (s .l) (s .d) (s .p) (s .n) (s .digits) (c .before .opened-row .ensures) (c .nothing .ensures))
+    (opened-leg (s .board) (s .r .0) (s .l) (s .d) (s .number) (c .before .opened-row .ensures) (c .nothing .ensures))
 
 pub open-spec : {M : Type 1} → statement M
 open-spec =

@@ -5,6 +5,7 @@ use mathlib.Core.List.{List}
 use mathlib.Core.Option.{Option, none, some}
 use Rattle.board.specs.declared.Direction.{Direction}
 use Rattle.board.specs.declared.Standing.the-variants.{Served}
+use Rattle.board.specs.declared.PartyNumber.{PartyNumber}
 use Rattle.board.specs.declared.Row.{Row}
 use Rattle.board.specs.declared.Board.{Board}
 use Rattle.board.specs.declared.Change.{Change}
@@ -38,12 +39,12 @@ use Rattle.replies.specs.Code.Writing.{rendered, numberTold}
 use Rattle.serving.specs.Code.Parties.{entriesOf}
 
 -- the row that an Open enters
-abbrev pub openedRow : ℕ → ℕ → Direction → ℕ → ℕ → List ℕ → Row
-openedRow r l d p n ds = record { leg = l; presentation = p; count = n; digits = ds; standing = Served (opened r d) }
+abbrev pub openedRow : ℕ → ℕ → Direction → PartyNumber → Row
+openedRow r l d n = record { leg = l; number = n; standing = Served (opened r d) }
 
 abbrev pub verdictOf : Decision → Verdict
 verdictOf (Refuse c) = Refused c
-verdictOf (OpenLeg l c p n ds) = Accepted
+verdictOf (OpenLeg l c n) = Accepted
 verdictOf (SetState r s) = Accepted
 verdictOf (SetAuxiliary r a) = Accepted
 verdictOf (ReleaseLeg e) = Accepted
@@ -78,7 +79,7 @@ serviceDeed p (Transfer x y i) = Apply (change.Join (x .leg) (y .leg))
 
 abbrev pub deedOf : Decision → Deed
 deedOf (Refuse c) = Stay
-deedOf (OpenLeg l c p n ds) = Enter
+deedOf (OpenLeg l c n) = Enter
 deedOf (SetState r s) = Apply (change.SetState (record { 0 = r }) s)
 deedOf (SetAuxiliary r a) = Apply (change.SetAuxiliary (record { 0 = r }) a)
 deedOf (ReleaseLeg e) = Apply (releaseOf (e .leg) (e .connection))
@@ -87,7 +88,7 @@ deedOf (EndAlerting l p) = Apply (change.EndAlerting l)
 
 abbrev pub rowOf : Decision → Row
 rowOf (Refuse c) = emptyRow
-rowOf (OpenLeg l c p n ds) = record { leg = l; presentation = p; count = n; digits = ds; standing = Served c }
+rowOf (OpenLeg l c n) = record { leg = l; number = n; standing = Served c }
 rowOf (SetState r s) = emptyRow
 rowOf (SetAuxiliary r a) = emptyRow
 rowOf (ReleaseLeg e) = emptyRow
@@ -119,9 +120,9 @@ entryFound (found-entry.This e) = some e
 entryFound found-entry.Nothing = none
 
 -- what an Open and a Facility come to on the board, with the fields of their records
-abbrev pub openOn : Board → ℕ → ℕ → Direction → ℕ → ℕ → List ℕ → Decision
-openOn b r l d p n ds =
-    decideOpen (any (hasLeg l) (entriesOf b)) (any (hasReference r) (entriesOf b)) (full (b .rows)) (OpenLeg l (opened r d) p n ds)
+abbrev pub openOn : Board → ℕ → ℕ → Direction → PartyNumber → Decision
+openOn b r l d n =
+    decideOpen (any (hasLeg l) (entriesOf b)) (any (hasReference r) (entriesOf b)) (full (b .rows)) (OpenLeg l (opened r d) n)
 
 abbrev pub facilityOn : Board → ℕ → List ℕ → Decision
 facilityOn b r c = decideFacility (b .options) (b .candidate .0) (entriesOf b) c (named r (entriesOf b))

@@ -15,7 +15,7 @@ isDigit d = leb 48 d && leb d 57
 -- what r asks for, with the digits and the component that lie in the record os
 abbrev pub requestOf : RequestHead → List ℕ → Request
 requestOf (head.Malformed c) os = Malformed c
-requestOf (head.Open r l d p n) os = Open (r .0) l d p n (drop 10 os)
+requestOf (head.Open r l d p n) os = Open (r .0) l d (record { presentation = p; count = n; digits = drop 10 os })
 requestOf (head.Progress r s) os = Progress (r .0) s
 requestOf (head.Hold r a) os = Hold (r .0) a
 requestOf (head.Release l) os = Release l

@@ -10,11 +10,11 @@ is-taken-requires c κs = search needs
 call-fits-requires : tie.Need-call-fits-requires
 call-fits-requires c κs = search needs
 
-party-fits-requires : tie.Need-party-fits-requires
-party-fits-requires c κs = search needs
+number-fits-requires : tie.Need-number-fits-requires
+number-fits-requires c κs = search needs
 
 returns : tie.Need-returns
-returns c = c .party-fits .ensures ∙ sym (taken-fits (c .before .before .before .before .before .args .row) (sym (c .before .before .before .before .is-taken .ensures) ∙ c .before .before .before .if1 .taken) (sym (c .before .before .call-fits .ensures) ∙ c .before .if2 .taken))
+returns c = c .number-fits .ensures ∙ sym (taken-fits (c .before .before .before .before .before .before .args .row) (sym (c .before .before .before .before .before .is-taken .ensures) ∙ c .before .before .before .before .if1 .taken) (sym (c .before .before .before .call-fits .ensures) ∙ c .before .before .if2 .taken))
 
 returns-2 : tie.Need-returns-2
 returns-2 c = sym (unfit-call (c .before .before .before .before .args .row) (sym (c .before .call-fits .ensures) ∙ c .if2 .left))
@@ -31,7 +31,7 @@ row-fits-spec =
     (tie.spec
     is-taken-requires
     call-fits-requires
-    party-fits-requires
+    number-fits-requires
     returns
     returns-2
     empty-fits-requires

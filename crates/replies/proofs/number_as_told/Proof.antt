@@ -1,7 +1,7 @@
--- `replies::number_of` meets its contract. Assumes nothing.
+-- `replies::number_as_told` meets its contract. Assumes nothing.
 use borrow.Author.Needs.{needs}
-use Rattle.replies.proofs.number_of.Statement.{statement}
-use Rattle.replies.proofs.number_of.Tie as tie
+use Rattle.replies.proofs.number_as_told.Statement.{statement}
+use Rattle.replies.proofs.number_as_told.Tie as tie
 use borrow.Author.Tests.{eq-eqb, ne-eqb}
 
 unknown-requires : tie.Need-unknown-requires
@@ -19,6 +19,6 @@ returns-2 c = simp (ne-eqb _ _ (c .before .before .before .if1 .left), eq-eqb _ 
 returns-3 : tie.Need-returns-3
 returns-3 c = simp (ne-eqb _ _ (c .before .before .before .if1 .left), ne-eqb _ _ (c .before .if2 .left))
 
-pub number-of-spec : {M : Type 1} → statement M
-number-of-spec =
+pub number-as-told-spec : {M : Type 1} → statement M
+number-as-told-spec =
     tie.close (tie.spec unknown-requires returns mark-only-requires returns-2 returns-3)
