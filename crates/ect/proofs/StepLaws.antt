@@ -74,7 +74,7 @@ module _ (b : Board) (os before : List ℕ) where
 
     answer-by : (d : Decision) (n : ℕ) → answerNumber (answerTo (verdictOf d) n) ≡ returnedBy d
     answer-by (Refuse r) n = refl
-    answer-by (OpenLeg l c p m ds) n = refl
+    answer-by (OpenLeg l c m) n = refl
     answer-by (SetState r t) n = refl
     answer-by (SetAuxiliary r a) n = refl
     answer-by (ReleaseLeg x) n = refl
@@ -84,7 +84,7 @@ module _ (b : Board) (os before : List ℕ) where
     count-by : (d : Decision) (n : ℕ) → n ≡ length (octets (replies NamedFirst (b .rows) d)) → answerCount (answerTo (verdictOf d) n) ≡ length (octets (replies NamedFirst (b .rows) d))
     unfolding octets replies
     count-by (Refuse r) n h = refl
-    count-by (OpenLeg l c p m ds) n h = h
+    count-by (OpenLeg l c m) n h = h
     count-by (SetState r t) n h = h
     count-by (SetAuxiliary r a) n h = h
     count-by (ReleaseLeg x) n h = h

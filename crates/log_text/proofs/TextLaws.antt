@@ -12,7 +12,8 @@ use lib.ListN.{length, getD, take, drop, set, length-append, length-take, length
 use lib.Seq.{take-suc, set-split, take-at, drop-at, drop-drop, length-take-le}
 use borrow.Author.Tests.{lt-ltb, le-ltb, le-leb, lt-leb}
 use Rattle.log_text.specs.Lines.{digit, decimalIn, decimal, hexOctet, hexOctets, octetsText, space, field, recordLine, endLine}
-use Rattle.log_text.specs.Writing.{Placed, over, Put}
+use Rattle.octets.specs.Buffers.{writtenAt}
+use Rattle.log_text.specs.Writing.{Fitted, Put}
 
 -- ---- numbers
 
@@ -75,36 +76,43 @@ decimal-short (suc k) n h = go (decLt n 10) (decimal-short k (n / 10))
 
 -- ---- texts written one after the other
 
+-- what lies beyond, by its place
+written-beyond : (at : ℕ) (x b : List ℕ) → writtenAt at x b ≡ take at b ++ (x ++ drop (at + length x) b)
+written-beyond at x b = ap (λ (l : List ℕ). take at b ++ (x ++ l)) (drop-drop (length x) at b)
+
 pub put-one : (b : List ℕ) (o at : ℕ) → at + 1 ≤ length b → Put (o ∷ []) b (set b at o) at (at + 1)
 put-one b o at h =
     let e : at < length b = omega arith in
-    record { is = rw (add-one at) (set-split b at o e); place = refl; long = length-set b at o }
+    record { is = rw (add-one at) (set-split b at o e) ∙ sym (written-beyond at (o ∷ []) b); place = refl; long = length-set b at o }
 
 pub put-nothing : (b : List ℕ) (at : ℕ) → Put [] b b at at
-put-nothing b at = record { is = rw (add-zero at) (sym (take-append-drop at b)); place = sym (add-zero at); long = refl }
+put-nothing b at = record { is = sym (take-append-drop at b); place = sym (add-zero at); long = refl }
+
+module _ (x y a b c : List ℕ) (at m : ℕ) where
+  both-written : at + length x ≤ length a → b ≡ take at a ++ (x ++ drop (at + length x) a) → m ≡ at + length x → c ≡ writtenAt m y b → c ≡ writtenAt at (x ++ y) a
+  both-written h p l q =
+      let e : length (take at a ++ x) ≡ at + length x = simp (length-append, length-take) (omega arith) in
+      q
+      ∙ rw (
+        p,
+        l,
+        ← append-assoc (take at a) x (drop (at + length x) a),
+        take-at (take at a ++ x) (drop (at + length x) a) (at + length x) e,
+        drop-at (take at a ++ x) (drop (at + length x) a) (at + length x) e,
+        drop-drop (length y) (at + length x) a,
+        written-beyond at (x ++ y) a,
+        length-append x y,
+        add-assoc,
+      )
+      (simp append-assoc)
 
 module _ {x y a b c : List ℕ} {at m n : ℕ} where
   pub join : at + length x ≤ length a → Put x a b at m → Put y b c m n → Put (x ++ y) a c at n
-  join h p q =
-      let e : length (take at a ++ x) ≡ at + length x = simp (length-append, length-take) (omega arith) in
-      record {
-        is =
-            q .is
-            ∙ rw (
-              p .is,
-              p .place,
-              ← append-assoc (take at a) x (drop (at + length x) a),
-              ← drop-drop (length y) (at + length x) ((take at a ++ x) ++ drop (at + length x) a),
-              take-at (take at a ++ x) (drop (at + length x) a) (at + length x) e,
-              drop-at (take at a ++ x) (drop (at + length x) a) (at + length x) e,
-              drop-drop (length y) (at + length x) a,
-              length-append x y,
-              add-assoc,
-            )
-            (simp append-assoc);
-        place = omega (arith, p .place, q .place, length-append x y);
-        long = q .long ∙ p .long;
-      }
+  join h p q = record {
+    is = both-written x y a b c at m h (p .is ∙ written-beyond at x a) (p .place) (q .is);
+    place = omega (arith, p .place, q .place, length-append x y);
+    long = q .long ∙ p .long;
+  }
 
 -- one octet more of a text
 pub join-next : {a b c : List ℕ} {at m n : ℕ} (s : List ℕ) (i : ℕ) → i < length s → at + length s ≤ length a
@@ -165,20 +173,20 @@ end-length legs pairs links = simp length-append (omega arith)
 
 -- ---- a text at the front
 
-pub put-all : {x a b : List ℕ} {n : ℕ} → length x ≤ length a → Put x a b 0 n → Placed x a b n
+pub put-all : {x a b : List ℕ} {n : ℕ} → length x ≤ length a → Put x a b 0 n → Fitted x a b n
 put-all {x} {a} {b} {n} h p =
     record {
-      is = p .is ∙ rw (zero-add (length x), le-leb (length x) (length a) h);
+      is = p .is ∙ rw (le-leb (length x) (length a) h);
       count = p .place ∙ rw (zero-add (length x), le-leb (length x) (length a) h);
       within = omega (arith, p .place);
     }
 
-pub put-none : (x a : List ℕ) → length a < length x → Placed x a a 0
+pub put-none : (x a : List ℕ) → length a < length x → Fitted x a a 0
 put-none x a h = record { is = simp (lt-leb (length x) (length a) h); count = simp (lt-leb (length x) (length a) h); within = omega arith }
 
 -- a line of five texts
 pub put-five : {v w x y z a b c d e f : List ℕ} {i j k l m : ℕ} → length (v ++ (w ++ (x ++ (y ++ z)))) ≤ length a
-    → Put v a b 0 i → Put w b c i j → Put x c d j k → Put y d e k l → Put z e f l m → Placed (v ++ (w ++ (x ++ (y ++ z)))) a f m
+    → Put v a b 0 i → Put w b c i j → Put x c d j k → Put y d e k l → Put z e f l m → Fitted (v ++ (w ++ (x ++ (y ++ z)))) a f m
 put-five {v} {w} {x} {y} {z} h p q r s t =
     let o = length-append v (w ++ (x ++ (y ++ z))) in
     let o₂ = length-append w (x ++ (y ++ z)) in

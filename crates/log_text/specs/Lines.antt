@@ -2,8 +2,7 @@
 use Prim.Native.Nat.{ℕ, zero, suc, _+_, _/_, _%_}
 use mathlib.Core.Bool.{cond}
 use mathlib.Core.List.{List, [], _∷_, _++_}
-use lib.Dec.{ltb, leb}
-use lib.ListN.{length, drop}
+use lib.Dec.{ltb}
 
 abbrev pub space : ℕ
 space = 32
@@ -62,11 +61,3 @@ firstLine = 101 ∷ 99 ∷ 116 ∷ space ∷ 49 ∷ lineFeed ∷ []
 -- "Bad or missing options: the line `bad options` alone"
 abbrev pub badOptionsLine : List ℕ
 badOptionsLine = 98 ∷ 97 ∷ 100 ∷ space ∷ 111 ∷ 112 ∷ 116 ∷ 105 ∷ 111 ∷ 110 ∷ 115 ∷ lineFeed ∷ []
-
--- a buffer with a text at its front: it keeps what lies beyond, and all it has where the text does not fit
-abbrev pub placed : List ℕ → List ℕ → List ℕ
-placed text buffer = cond (leb (length text) (length buffer)) (text ++ drop (length text) buffer) buffer
-
--- how many octets that wrote
-abbrev pub placedCount : List ℕ → List ℕ → ℕ
-placedCount text buffer = cond (leb (length text) (length buffer)) (length text) 0

@@ -8,7 +8,7 @@ ghost use lib.Dec.{leb};
 ghost use lib.ListN.{length};
 ghost use Rattle.log_text.specs.Lines.{decimal, hexDigit, hexOctet, octetsText, field};
 ghost use Rattle.log_text.specs.Lines.{recordLine, endLine, firstLine, badOptionsLine};
-ghost use Rattle.log_text.specs.Writing.{Placed, Put};
+ghost use Rattle.log_text.specs.Writing.{Fitted, Put};
 
 const SPACE: u8 = 32;
 
@@ -129,7 +129,7 @@ fn record_fits(number: u64, kind: u8, returned: u8, octets: &[u8], room: usize) 
 
 // The line of a record: its number, its kind, what was returned, and the octets written.
 pub fn record_line(number: u64, kind: u8, returned: u8, octets: &[u8], out: &mut [u8]) -> usize
-    ensures { λ r. ⌜ Placed (recordLine number kind returned (now (octets .entry)))
+    ensures { λ r. ⌜ Fitted (recordLine number kind returned (now (octets .entry)))
         (now (out .entry)) (now (out .exit)) r ⌝ }
 {
     if record_fits(number, kind, returned, octets, out.len()) {
@@ -144,7 +144,7 @@ pub fn record_line(number: u64, kind: u8, returned: u8, octets: &[u8], out: &mut
 
 // The last line: how many legs, pairs and live LinkIds the board has.
 pub fn end_line(legs: u64, pairs: u64, links: u64, out: &mut [u8]) -> usize
-    ensures { λ r. ⌜ Placed (endLine legs pairs links) (now (out .entry)) (now (out .exit)) r ⌝ }
+    ensures { λ r. ⌜ Fitted (endLine legs pairs links) (now (out .entry)) (now (out .exit)) r ⌝ }
 {
     let length = decimal_length(legs) + decimal_length(pairs) + decimal_length(links) + 7;
     if out.len() < length {
@@ -158,7 +158,7 @@ pub fn end_line(legs: u64, pairs: u64, links: u64, out: &mut [u8]) -> usize
 }
 
 fn place(text: &[u8], out: &mut [u8]) -> usize
-    ensures { λ r. ⌜ Placed (now (text .entry)) (now (out .entry)) (now (out .exit)) r ⌝ }
+    ensures { λ r. ⌜ Fitted (now (text .entry)) (now (out .entry)) (now (out .exit)) r ⌝ }
 {
     if out.len() < text.len() {
         return 0;
@@ -168,14 +168,14 @@ fn place(text: &[u8], out: &mut [u8]) -> usize
 
 // The first line.
 pub fn first_line(out: &mut [u8]) -> usize
-    ensures { λ r. ⌜ Placed firstLine (now (out .entry)) (now (out .exit)) r ⌝ }
+    ensures { λ r. ⌜ Fitted firstLine (now (out .entry)) (now (out .exit)) r ⌝ }
 {
     place(b"ect 1\n", out)
 }
 
 // The only line, where the options are bad or missing.
 pub fn bad_options_line(out: &mut [u8]) -> usize
-    ensures { λ r. ⌜ Placed badOptionsLine (now (out .entry)) (now (out .exit)) r ⌝ }
+    ensures { λ r. ⌜ Fitted badOptionsLine (now (out .entry)) (now (out .exit)) r ⌝ }
 {
     place(b"bad options\n", out)
 }

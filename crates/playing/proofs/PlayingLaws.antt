@@ -15,7 +15,7 @@ use Rattle.ect.specs.Contract.{Shows, answerNumber, answerCount}
 use Rattle.ect.specs.declared.Stepped.{Stepped}
 use Rattle.log_text.proofs.TextLaws.{line-short}
 use Rattle.log_text.specs.Lines.{recordLine}
-use Rattle.log_text.specs.Writing.{Placed}
+use Rattle.log_text.specs.Writing.{Fitted}
 use Rattle.playing.specs.declared.Pause.the-variants.{MoreInput, FullOutput, End}
 use Rattle.playing.specs.Records.{recordLength}
 use Rattle.playing.specs.Log.{outcomeLine, ordersLater, judged, stopsReading, largestNumber}
@@ -30,7 +30,7 @@ module _ {o : Outcome} {before after : List ℕ} {r : Stepped} (s : Shows o befo
       omega (arith, s .count, ap length (s .buffer))
 
   pub told : {number returned count written : ℕ} {event out out′ : List ℕ} → returned ≡ answerNumber (r .answer) → count ≡ answerCount (r .answer)
-      → Placed (recordLine number (getD event 0 0) returned (take count after)) out out′ written
+      → Fitted (recordLine number (getD event 0 0) returned (take count after)) out out′ written
       → length (outcomeLine number event o) ≤ longestLine
       → TellsOf o number event out out′ (record { board = r .board; returned = returned; written = written })
   told e f p h =

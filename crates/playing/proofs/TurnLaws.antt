@@ -13,7 +13,7 @@ use Rattle.rules.specs.Replies.{DropOrder}
 use Rattle.board.specs.Soundness.{sound}
 use Rattle.rules.specs.Step.{step, stepTested}
 use Rattle.rules.proofs.SoundKept.{sound-kept, as-many-rows}
-use Rattle.log_text.specs.Writing.{Placed}
+use Rattle.log_text.specs.Writing.{Fitted}
 use Rattle.playing.specs.declared.Pause.{Pause}
 use Rattle.playing.specs.declared.Pause.the-variants.{End}
 use Rattle.playing.specs.declared.Told.{Told}
@@ -60,7 +60,7 @@ module _ {b₀ b : Board} {n₀ n read text : ℕ} {piece out₀ out : List ℕ}
 
 -- a line behind what is written: the buffer's part from there on holds it, and the rest is kept
 line-behind : (out₀ out written line part part′ : List ℕ) (text w : ℕ) → text ≡ length written → out ≡ written ++ drop text out₀ → text ≤ length out →
-    part ≡ drop text out → length line ≤ length part → Placed line part part′ w →
+    part ≡ drop text out → length line ≤ length part → Fitted line part part′ w →
     (w ≡ length line) × (take text out ++ (part′ ++ drop (length out - text) (drop text out)) ≡ (written ++ line) ++ drop (text + w) out₀)
 line-behind out₀ out written line part part′ text w c o h s l p =
     let t = le-leb (length line) (length part) l in

@@ -8,7 +8,7 @@ use lib.ListN.{length, take, drop, getD}
 use Rattle.board.specs.declared.Board.{Board}
 use Rattle.rules.specs.Replies.{DropOrder}
 use Rattle.rules.specs.Step.{Outcome, stepTested}
-use Rattle.log_text.specs.Writing.{Placed}
+use Rattle.log_text.specs.Writing.{Fitted}
 use Rattle.playing.specs.declared.Told.{Told}
 use Rattle.playing.specs.declared.Pause.{Pause}
 use Rattle.playing.specs.declared.Pause.the-variants.{MoreInput, FullOutput, End}
@@ -90,7 +90,7 @@ Plays b n piece last before after r = (orders : List DropOrder) × PlaysAs (play
 pub record TellsOf (o : Outcome) (number : ℕ) (event before after : List ℕ) (r : Told) : Type 0 where
   pub board : r .board ≡ o .board
   pub returned : r .returned ≡ o .returned
-  pub line : Placed (outcomeLine number event o) before after (r .written)
+  pub line : Fitted (outcomeLine number event o) before after (r .written)
   pub short : length (outcomeLine number event o) ≤ longestLine
 
 -- the outcome is that of the rules at a buffer of 128 octets, in one order of a transfer's two Drops
