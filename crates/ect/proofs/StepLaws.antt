@@ -4,7 +4,8 @@ use Prim.Native.Nat.{_<_, _≤_, ℕ}
 use mathlib.Core.Path.{_∙_, ap, refl, subst, subst⁻¹, _≡_}
 use mathlib.Core.Bool.{Bool, cond, false, true}
 use mathlib.Core.List.{_++_, List}
-use lib.ListN.{length, drop}
+use lib.ListN.{length}
+use Rattle.octets.specs.Buffers.{frontWritten}
 use Rattle.board.specs.Soundness.{sound}
 use Rattle.board.specs.declared.Board.{Board}
 use Rattle.ect.specs.Contract.{Shows, Steps, StepsTested, answerNumber, answerCount}
@@ -49,8 +50,8 @@ shows-refused c b before = record { answer = refl; count = refl; board = refl; b
 shows-is : {o p : Outcome} {before : List ℕ} {r : Stepped} {after : List ℕ} → o ≡ p → Shows p before r after → Shows o before r after
 shows-is {before = before} {r = r} {after = after} h k = subst⁻¹ (λ (x : Outcome). Shows x before r after) h k
 
-copied : {o : Out} (rs : List ReplyRecord) {b : List ℕ} (before : List ℕ) → o ≡ rendered rs → b ≡ written o ++ drop (o .len) before → b ≡ octets rs ++ drop (length (octets rs)) before
-copied rs before s e = e ∙ rw (s, rendered-written rs, rendered-len rs)
+copied : {o : Out} (rs : List ReplyRecord) {b : List ℕ} (before : List ℕ) → o ≡ rendered rs → b ≡ frontWritten (written o) before → b ≡ frontWritten (octets rs) before
+copied rs before s e = e ∙ ap (λ (l : List ℕ). frontWritten l before) (ap written s ∙ rendered-written rs)
 
 written-len : {e : Effect} {b : Board} {d : Decision} → Carries e b d → e .out .len ≡ length (octets (replies NamedFirst (b .rows) d))
 written-len {b = b} {d = d} k = ap (λ (o : Out). o .len) (says k) ∙ rendered-len (replies NamedFirst (b .rows) d)
@@ -92,7 +93,7 @@ module _ (b : Board) (os before : List ℕ) where
     count-by (EndAlerting l p) n h = h
 
     pub step-done : {tested : Bool} → tested ≡ true → {e : Effect} → Carries e b (decision b os) → {n : ℕ} {a : StepAnswer} {b′ : Board} {after : List ℕ} →
-        n ≡ e .out .len → after ≡ written (e .out) ++ drop (e .out .len) before → a ≡ answerTo (e .verdict) n → b′ ≡ boardBy (e .deed) (e .row) b → StepsTested tested b os before (stepped a b′) after
+        n ≡ e .out .len → after ≡ frontWritten (written (e .out)) before → a ≡ answerTo (e .verdict) n → b′ ≡ boardBy (e .deed) (e .row) b → StepsTested tested b os before (stepped a b′) after
     step-done t k {n} m q v w =
         let d = decision b os in
         let u = v ∙ ap (λ (x : Verdict). answerTo x n) (verdict-is k) in

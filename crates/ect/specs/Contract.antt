@@ -2,8 +2,9 @@
 use Prim.Native.Nat.{ℕ}
 use mathlib.Core.Path.{_≡_}
 use mathlib.Core.Bool.{Bool}
-use mathlib.Core.List.{List, _++_}
-use lib.ListN.{length, drop}
+use mathlib.Core.List.{List}
+use lib.ListN.{length}
+use Rattle.octets.specs.Buffers.{frontWritten}
 use Rattle.board.specs.declared.Board.{Board}
 use Rattle.events.specs.Refusals.{refusalNumber}
 use Rattle.rules.specs.Replies.{DropOrder, octets}
@@ -27,7 +28,7 @@ pub record Shows (o : Outcome) (before : List ℕ) (r : Stepped) (after : List �
   pub answer : answerNumber (r .answer) ≡ o .returned
   pub count : answerCount (r .answer) ≡ length (octets (o .replies))
   pub board : r .board ≡ o .board
-  pub buffer : after ≡ octets (o .replies) ++ drop (length (octets (o .replies))) before
+  pub buffer : after ≡ frontWritten (octets (o .replies)) before
 
 -- the outcome is that of the rules, in one order of a transfer's two Drops: "Only the order of the two drop notices is left open."
 abbrev pub Steps : Board → List ℕ → List ℕ → Stepped → List ℕ → Type 0

@@ -8,8 +8,8 @@ use replies::Out;
 use soundness::sound;
 ghost use Prim.Native.Nat.{_≤_};
 ghost use mathlib.Core.Path.{_≡_};
-ghost use mathlib.Core.List.{_++_};
-ghost use lib.ListN.{length, drop};
+ghost use lib.ListN.{length};
+ghost use Rattle.octets.specs.Buffers.{frontWritten};
 ghost use Rattle.replies.specs.Code.Writing.{written};
 ghost use Rattle.ect.specs.Contract.{Steps, StepsTested};
 ghost use Rattle.ect.specs.Code.Answering.{answerTo};
@@ -38,7 +38,7 @@ fn answer_to(verdict: Verdict, n: usize) -> StepAnswer
 // Copies what is written to the front of a buffer, keeps what lies beyond, and returns how many octets that is.
 fn copy_out(reply: &mut [u8], out: Out) -> usize
     requires { ⌜ (out .len ≤ 128) × (out .len ≤ length (now reply)) ⌝ }
-    ensures { λ r. ⌜ (r ≡ out .len) × (now (reply .exit) ≡ written out ++ drop (out .len) (now (reply .entry))) ⌝ }
+    ensures { λ r. ⌜ (r ≡ out .len) × (now (reply .exit) ≡ frontWritten (written out) (now (reply .entry))) ⌝ }
 {
     let n = out.len;
     let octets = out.octets;

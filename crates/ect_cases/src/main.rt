@@ -1,4 +1,4 @@
-// Runs cases and prints a line for each: every refusal of `step`, and a transfer.
+// Runs cases and prints a line for each: every refusal of `step`, a transfer, and README's sample.
 use board::Board;
 use board::Options;
 use ect::StepAnswer;
@@ -7,6 +7,7 @@ use events::refusal_number;
 use show::decimal;
 use show::text;
 
+mod sample;
 mod show;
 mod transfer;
 
@@ -114,4 +115,5 @@ fn main() {
     before_the_board(fresh);
     on_the_board(fresh);
     transfer::ward_transfer(fresh);
+    sample::sample();
 }

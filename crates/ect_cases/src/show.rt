@@ -18,3 +18,10 @@ pub fn hex(octets: &[u8]) {
         i += 1;
     }
 }
+
+// The first n octets, which are those that were written.
+pub fn front(n: usize, octets: &[u8]) {
+    if n <= octets.len() {
+        hex(&octets[..n]);
+    }
+}

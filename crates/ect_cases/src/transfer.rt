@@ -1,18 +1,10 @@
 // How an exchange calls `step`: a held call and an alerting one are transferred to each other, and the ward answers.
 use crate::show::decimal;
-use crate::show::hex;
+use crate::show::front;
 use crate::show::text;
 use board::Board;
 use ect::StepAnswer;
 use events::refusal_number;
-
-// The front of the buffer is to be sent.
-fn send(n: usize, reply: &[u8]) {
-    if n <= reply.len() {
-        hex(&reply[..n]);
-    }
-    text(b"\n");
-}
 
 // One event: the exchange sends what was written, and goes on with the board that it gets.
 fn event(board: Board, octets: &[u8]) -> Board {
@@ -22,7 +14,8 @@ fn event(board: Board, octets: &[u8]) -> Board {
     match answer {
         StepAnswer::Accepted(n) => {
             text(b"accepted ");
-            send(n, &reply);
+            front(n, &reply);
+            text(b"\n");
         }
         StepAnswer::Refused(refusal) => {
             text(b"refused ");

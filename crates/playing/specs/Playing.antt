@@ -8,6 +8,7 @@ use lib.ListN.{length, take, drop, getD}
 use Rattle.board.specs.declared.Board.{Board}
 use Rattle.rules.specs.Replies.{DropOrder}
 use Rattle.rules.specs.Step.{Outcome, stepTested}
+use Rattle.octets.specs.Buffers.{frontWritten}
 use Rattle.log_text.specs.Writing.{Fitted}
 use Rattle.playing.specs.declared.Told.{Told}
 use Rattle.playing.specs.declared.Pause.{Pause}
@@ -80,7 +81,7 @@ pausedAt b n r w p = record { board = b; number = n; read = r; written = w; paus
 -- all that `play` returns, and the buffer, which "keeps what lies beyond the octets written"
 pub record PlaysAs (p : Playing) (before after : List ℕ) (r : Played) : Type 0 where
   pub is : r ≡ pausedAt (p .board) (p .number) (p .read) (length (p .text)) (p .pause)
-  pub buffer : after ≡ p .text ++ drop (length (p .text)) before
+  pub buffer : after ≡ frontWritten (p .text) before
 
 -- in one order of the Drops for each record
 abbrev pub Plays : Board → ℕ → List ℕ → Bool → List ℕ → List ℕ → Played → Type 0

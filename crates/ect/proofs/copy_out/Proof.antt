@@ -7,8 +7,9 @@ use native.Mathlib.Omega.{arith}
 use mathlib.Core.Path.{_≡_, refl, sym, ap, _∙_}
 use native.Mathlib.Nat.{zero-add}
 use native.Mathlib.Numerals.{add-one}
-use lib.ListN.{length, getD, set}
-use lib.Seq.{paste, paste-zero, paste-suc, length-paste}
+use mathlib.Core.List.{_++_}
+use lib.ListN.{length, take, drop, getD, set}
+use lib.Seq.{paste, paste-zero, paste-suc, length-paste, length-take-le}
 
 abbrev Inv-loop : tie.InvT-loop
 Inv-loop reply₀ n octets i₀ reply i = (i ≤ n) × (reply ≡ paste reply₀ 0 octets i)
@@ -53,7 +54,10 @@ same-length c = kept (c .before)
 returns : tie.Need-returns Inv-loop μ-loop
 returns c =
     let e : c .before .loop .i ≡ c .before .before .before .args .out .len = omega arith in
-    (refl, rw (e, zero-add (c .before .before .before .args .out .len)) at (c .before .loop .inv .1))
+    let o = c .before .before .before .args .out .octets in
+    let n = c .before .before .before .args .out .len in
+    let l = long (c .before) in
+    (refl, rw (e, zero-add n) at (c .before .loop .inv .1) ∙ ap (λ (k : ℕ). take n o ++ drop k (c .before .before .before .args .reply .now)) (sym (length-take-le n o (omega arith))))
 
 pub copy-out-spec : {M : Type 1} → statement M
 copy-out-spec =
