@@ -7,7 +7,7 @@ use mathlib.Core.List.{List}
 use mathlib.Core.Option.{Option, none, some}
 use lib.IntN.{ℤ}
 use Rattle.octets.specs.declared.LinkId.{LinkId}
-use Rattle.octets.specs.Numbers.{sameLinkId, nextLinkId}
+use Rattle.octets.specs.Numbers.{sameInteger, nextLinkId}
 use Rattle.octets.specs.Lists.{any, pick, placeFrom}
 use Rattle.octets.proofs.Lists.{testOpt, any-ext}
 use Rattle.octets.proofs.Places.{pickOpt, any-pick, pick-pick, pick-ext}
@@ -20,15 +20,15 @@ use Rattle.board.specs.Code.Keys.{matchesKey}
 use Rattle.board.specs.LinkIds.{liveLinkIds, unlessLive, freeLinkId}
 use Rattle.board.proofs.Searches.{key-nowhere, key-somewhere, any-linkId}
 
-is-linkId : (z : ℤ) (o : Option ℤ) → testOpt (sameLinkId z) o ≡ isLinkId z o
+is-linkId : (z : ℤ) (o : Option ℤ) → testOpt (sameInteger z) o ≡ isLinkId z o
 is-linkId z none = refl
 is-linkId z (some y) = refl
 
 -- a LinkId is live where some row has it
-pub live-rows : (l : LinkId) (rows : List Row) → any (sameLinkId (l .0)) (liveLinkIds rows) ≡ any (matchesKey (key.LinkId l)) rows
+pub live-rows : (l : LinkId) (rows : List Row) → any (sameInteger (l .0)) (liveLinkIds rows) ≡ any (matchesKey (key.LinkId l)) rows
 live-rows l rows =
-    any-pick (sameLinkId (l .0)) (λ (e : Entry). linkIdOf (e .connection)) (taken rows)
-    ∙ any-ext (λ (e : Entry). testOpt (sameLinkId (l .0)) (linkIdOf (e .connection))) (hasLinkId (l .0)) (taken rows) (λ e. is-linkId (l .0) (linkIdOf (e .connection)))
+    any-pick (sameInteger (l .0)) (λ (e : Entry). linkIdOf (e .connection)) (taken rows)
+    ∙ any-ext (λ (e : Entry). testOpt (sameInteger (l .0)) (linkIdOf (e .connection))) (hasLinkId (l .0)) (taken rows) (λ e. is-linkId (l .0) (linkIdOf (e .connection)))
     ∙ any-linkId l rows
 
 -- the LinkIds of the calls are those that are live
@@ -47,7 +47,7 @@ module _ (l : LinkId) (rows : List Row) (n k : ℕ) (h : k < n) where
   pub free-here : foundAt (placeFrom (matchesKey (key.LinkId l)) 0 rows) ≡ Nothing → some (l .0) ≡ freeLinkId (n - k) (l .0) (liveLinkIds rows)
   free-here e =
       let s : n - k ≡ suc (n - (k + 1)) = omega arith in
-      let v : any (sameLinkId (l .0)) (liveLinkIds rows) ≡ false = live-rows l rows ∙ key-nowhere (key.LinkId l) rows e in
+      let v : any (sameInteger (l .0)) (liveLinkIds rows) ≡ false = live-rows l rows ∙ key-nowhere (key.LinkId l) rows e in
       sym
       (ap (λ (m : ℕ). freeLinkId m (l .0) (liveLinkIds rows)) s
       ∙ ap (λ (b : Bool). unlessLive b (l .0) (freeLinkId (n - (k + 1)) (nextLinkId (l .0)) (liveLinkIds rows))) v)
@@ -56,7 +56,7 @@ module _ (l : LinkId) (rows : List Row) (n k : ℕ) (h : k < n) where
       freeLinkId (n - (k + 1)) (nextLinkId (l .0)) (liveLinkIds rows) ≡ freeLinkId (n - k) (l .0) (liveLinkIds rows)
   free-next i e =
       let s : n - k ≡ suc (n - (k + 1)) = omega arith in
-      let v : any (sameLinkId (l .0)) (liveLinkIds rows) ≡ true =
+      let v : any (sameInteger (l .0)) (liveLinkIds rows) ≡ true =
       live-rows l rows ∙ key-somewhere (key.LinkId l) rows i e in
       sym
       (ap (λ (m : ℕ). freeLinkId m (l .0) (liveLinkIds rows)) s

@@ -10,9 +10,9 @@ use lib.IntN.{ℤ}
 use Rattle.board.specs.Entries.{Entry, linkIds, hasLeg, isNumber, isLinkId, hasReference, referenceOf, hasLinkId, linkIdOf, linked, Connection, WithUser, WithPartner}
 use Rattle.board.specs.Soundness.{validEntry, sameLegs, sameReferences, sameLinkIds, partnered, soundEntries, sameNumbers, sameLinkIdsIn, validPartner, answersTo}
 use Rattle.octets.proofs.Lists.{right, left, both, eqb-sym, distinct-one, eqb-of, eqb-eq, true-not-false, small-mem, mem-keep, Perm, all-perm, distinct-perm, length-perm, keep-perm, all-ext, any-perm}
-use Rattle.octets.proofs.SameLinkId.{sameLinkId-sym, sameLinkId-eq, sameLinkId-self}
+use Rattle.octets.proofs.SameInteger.{sameInteger-sym, sameInteger-eq, sameInteger-self}
 use Rattle.octets.specs.Lists.{all, distinct, keep}
-use Rattle.octets.specs.Numbers.{sameLinkId}
+use Rattle.octets.specs.Numbers.{sameInteger}
 
 -- ---- what soundness says
 
@@ -56,7 +56,7 @@ sameLinkIdsIn-sym : (o u : Option ℤ) → sameLinkIdsIn o u ≡ sameLinkIdsIn u
 sameLinkIdsIn-sym none none = refl
 sameLinkIdsIn-sym none (some n) = refl
 sameLinkIdsIn-sym (some m) none = refl
-sameLinkIdsIn-sym (some m) (some n) = sameLinkId-sym m n
+sameLinkIdsIn-sym (some m) (some n) = sameInteger-sym m n
 
 -- ---- one entry for a leg, a reference, a LinkId
 
@@ -71,7 +71,7 @@ isNumber-same r (some m) (some n) a b = eqb-of m n (sym (eqb-eq r m a) ∙ eqb-e
 isLinkId-same : (z : ℤ) (o u : Option ℤ) → isLinkId z o ≡ true → isLinkId z u ≡ true → sameLinkIdsIn o u ≡ true
 isLinkId-same z none u a b = absurd (true-not-false a refl)
 isLinkId-same z (some x) none a b = absurd (true-not-false b refl)
-isLinkId-same z (some x) (some y) a b = subst (λ (w : ℤ). sameLinkId x w ≡ true) (sym (sameLinkId-eq z x a) ∙ sameLinkId-eq z y b) (sameLinkId-self x)
+isLinkId-same z (some x) (some y) a b = subst (λ (w : ℤ). sameInteger x w ≡ true) (sym (sameInteger-eq z x a) ∙ sameInteger-eq z y b) (sameInteger-self x)
 
 pub refs-one : (r : ℕ) {es : List Entry} → Sound es → length (keep (hasReference r) es) ≤ 1
 refs-one r {es} s = distinct-one sameReferences (hasReference r) (λ e f a b. isNumber-same r (referenceOf (e .connection)) (referenceOf (f .connection)) a b) es (s .refs)

@@ -8,7 +8,7 @@ use lib.Dec.{eqb}
 use lib.IntN.{ℤ}
 use lib.ListN.{length}
 use Rattle.octets.specs.Lists.{keep, pick}
-use Rattle.octets.specs.Numbers.{sameLinkId}
+use Rattle.octets.specs.Numbers.{sameInteger}
 use Rattle.board.specs.declared.OptionalLinkId.{OptionalLinkId}
 use Rattle.board.specs.declared.OptionalLinkId.the-variants.{Absent, Present}
 use Rattle.board.specs.declared.Call.{Call}
@@ -82,7 +82,7 @@ linkIdOf (WithPartner p a) = none
 
 abbrev pub isLinkId : ℤ → Option ℤ → Bool
 isLinkId z none = false
-isLinkId z (some y) = sameLinkId z y
+isLinkId z (some y) = sameInteger z y
 
 abbrev pub hasLinkId : ℤ → Entry → Bool
 hasLinkId z e = isLinkId z (linkIdOf (e .connection))

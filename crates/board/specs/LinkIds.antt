@@ -5,7 +5,7 @@ use mathlib.Core.List.{List}
 use mathlib.Core.Option.{Option, none, some}
 use lib.IntN.{ℤ}
 use Rattle.octets.specs.Lists.{any, pick}
-use Rattle.octets.specs.Numbers.{sameLinkId, nextLinkId}
+use Rattle.octets.specs.Numbers.{sameInteger, nextLinkId}
 use Rattle.board.specs.declared.OptionalLinkId.{OptionalLinkId}
 use Rattle.board.specs.declared.OptionalLinkId.the-variants.{Absent, Present}
 use Rattle.board.specs.declared.Row.{Row}
@@ -22,7 +22,7 @@ unlessLive false z later = some z
 -- "the first value not live from the candidate upward, 32767 followed by -32768", looked for at that many values
 abbrev pub freeLinkId : ℕ → ℤ → List ℤ → Option ℤ
 freeLinkId zero z used = none
-freeLinkId (suc n) z used = unlessLive (any (sameLinkId z) used) z (freeLinkId n (nextLinkId z) used)
+freeLinkId (suc n) z used = unlessLive (any (sameInteger z) used) z (freeLinkId n (nextLinkId z) used)
 
 -- as the code says it
 abbrev pub optionalLinkId : Option ℤ → OptionalLinkId

@@ -68,7 +68,7 @@ fn is_link_id(link: OptionalLinkId, id: LinkId) -> bool
 {
     match link {
         OptionalLinkId::Absent => false,
-        OptionalLinkId::Present(own) => id.same(own),
+        OptionalLinkId::Present(own) => id.to_integer().same(own.to_integer()),
     }
 }
 

@@ -77,7 +77,7 @@ impl Text {
     }
 
     fn link_id(self, id: LinkId) -> Text {
-        let n = id.to_bits();
+        let n = id.to_integer().to_bits();
         if n < 32768 {
             return self.decimal(n);
         }

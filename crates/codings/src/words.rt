@@ -3,6 +3,7 @@
 use component::Answer;
 use component::Component;
 use component::Reject;
+use octets::Integer;
 use octets::IntegerOctets;
 use octets::LinkId;
 ghost use Prim.Native.Nat.{_+_, _≤_};
@@ -127,13 +128,13 @@ fn link_id(s: &[u8], from: usize) -> LinkId
     requires { ⌜ from ≤ 40 ⌝ }
 {
     if at(s, from) != b'-' {
-        return LinkId::from_bits(number(s, from));
+        return LinkId::from_integer(Integer::from_bits(number(s, from)));
     }
     let n = number(s, from + 1);
     if n == 0 {
         return LinkId(0);
     }
-    LinkId::from_bits(65535 - (n - 1))
+    LinkId::from_integer(Integer::from_bits(65535 - (n - 1)))
 }
 
 fn reject(s: &[u8]) -> Answered {

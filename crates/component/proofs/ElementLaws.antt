@@ -12,7 +12,7 @@ use Rattle.octets.proofs.Places.{rest}
 use Rattle.component.specs.declared.elements.FirstElement.{FirstElement}
 use Rattle.component.specs.declared.elements.FirstElement.the-variants as first
 use Rattle.component.specs.Elements.{Element, Bad, Whole, validHead, firstElement, constructed, wellFormed, siblings, wholeElements}
-use Rattle.component.specs.Code.Readers.{elementOf, elementEnd, Found, checked}
+use Rattle.component.specs.Code.Readers.{elementOf, elementEnd, FirstElementRead, checked}
 
 -- ---- parts of a slice
 drop-two : (n a b : ℕ) (s : List ℕ) → drop (n + 2) (a ∷ b ∷ s) ≡ drop n s
@@ -37,7 +37,7 @@ front (tag ∷ n ∷ s) h =
     rw (e, drop-two)
 
 -- ---- what a reader found
-module _ {s : List ℕ} {r : FirstElement} {e : Element} (f : Found s r e) where
+module _ {s : List ℕ} {r : FirstElement} {e : Element} (f : FirstElementRead s r e) where
   pub found : {tag n : ℕ} → r ≡ first.Whole tag n → e ≡ elementOf (first.Whole tag n) s
   found q = sym (f .is) ∙ rw q
 
@@ -49,19 +49,19 @@ module _ {s : List ℕ} {r : FirstElement} {e : Element} (f : Found s r e) where
   ends q = rw q at (f .within)
 
   -- judged by its contents, where they are elements
-  pub sound : {tag n : ℕ} (inner : List ℕ → Bool) → r ≡ first.Whole tag n → (not (constructed tag) || inner (take (n + 2 - 2) (drop 2 s))) ≡ true → Found s (first.Whole tag n) (checked inner e)
+  pub sound : {tag n : ℕ} (inner : List ℕ → Bool) → r ≡ first.Whole tag n → (not (constructed tag) || inner (take (n + 2 - 2) (drop 2 s))) ≡ true → FirstElementRead s (first.Whole tag n) (checked inner e)
   sound {tag} {n} inner q t = record { is = sym (rw (taken q, t, add-sub-cancel, rest)); within = ends q }
 
-  pub unsound : {tag n : ℕ} (inner : List ℕ → Bool) → r ≡ first.Whole tag n → (not (constructed tag) || inner (take (n + 2 - 2) (drop 2 s))) ≡ false → Found s first.Bad (checked inner e)
+  pub unsound : {tag n : ℕ} (inner : List ℕ → Bool) → r ≡ first.Whole tag n → (not (constructed tag) || inner (take (n + 2 - 2) (drop 2 s))) ≡ false → FirstElementRead s first.Bad (checked inner e)
   unsound {tag} {n} inner q t = record { is = sym (rw (taken q, t)); within = omega arith }
 
   pub missing : r ≡ first.Bad → e ≡ Bad
   missing q = sym (f .is) ∙ rw q
 
-pub bad : {s : List ℕ} {e : Element} → Bad ≡ e → Found s first.Bad e
+pub bad : {s : List ℕ} {e : Element} → Bad ≡ e → FirstElementRead s first.Bad e
 bad q = record { is = q; within = omega arith }
 
-pub whole : {s : List ℕ} {e : Element} (tag n : ℕ) → n + 2 ≤ length s → elementOf (first.Whole tag n) s ≡ e → Found s (first.Whole tag n) e
+pub whole : {s : List ℕ} {e : Element} (tag n : ℕ) → n + 2 ≤ length s → elementOf (first.Whole tag n) s ≡ e → FirstElementRead s (first.Whole tag n) e
 whole tag n h q = record { is = q; within = h }
 
 -- ---- elements up to the end

@@ -12,7 +12,7 @@ use Rattle.component.specs.declared.Reject.the-variants.{Null, General, 
 use Rattle.component.specs.declared.Answer.{Answer}
 use Rattle.component.specs.declared.Answer.the-variants as answer
 use Rattle.component.specs.Reading.{ectObject}
-use Rattle.component.specs.Answers.{element, integer, rejectOctets, answerOctets, encoded}
+use Rattle.component.specs.Answers.{element, integer, rejectOctets, answerOctets, filled}
 
 reject-length : (r : Reject) → length (rejectOctets r) ≤ 32
 reject-length (Null p) = omega arith
@@ -39,6 +39,6 @@ answer-length (answer.Result (One a)) = omega arith
 answer-length (answer.Result (Two a b)) = omega arith
 answer-length (answer.LinkIdResult i l) = result-length i (fewest (l .0))
 
-pub encoded-length : (a : Answer) → length (encoded a .octets) ≡ 32
-unfolding encoded
-encoded-length a = simp (length-append, length-replicate) (omega (arith, answer-length a))
+-- and, zero filled, is as long
+pub filled-length : (c : List ℕ) → length c ≤ 32 → length (filled c) ≡ 32
+filled-length c h = simp (length-append, length-replicate) (omega (arith, h))

@@ -17,13 +17,13 @@ use Rattle.component.specs.declared.Reading.the-variants.{Ignored, Rejec
 use Rattle.component.specs.declared.Reject.the-variants.{Null}
 use Rattle.component.specs.declared.elements.FirstElement.{FirstElement}
 use Rattle.component.specs.declared.elements.FirstElement.the-variants as first
-use Rattle.component.specs.declared.values.Integer.{Integer}
-use Rattle.component.specs.declared.values.Integer.the-variants as integer
-use Rattle.component.specs.declared.values.Object.{Object}
-use Rattle.component.specs.declared.values.Object.the-variants as object
+use Rattle.component.specs.declared.values.FirstInteger.{FirstInteger}
+use Rattle.component.specs.declared.values.FirstInteger.the-variants as integer
+use Rattle.component.specs.declared.values.FirstObject.{FirstObject}
+use Rattle.component.specs.declared.values.FirstObject.the-variants as object
 use Rattle.component.specs.Elements.{Element, wholeElements}
-use Rattle.component.specs.Reading.{oneOrTwo, integerIn, objectIn, after, ectObject, invokeReading, framedReading, reading}
-use Rattle.component.specs.Code.Readers.{Found, IntegerRead, ObjectRead}
+use Rattle.component.specs.Reading.{oneOrTwo, integerIn, objectIn, restOf, ectObject, invokeReading, framedReading, reading}
+use Rattle.component.specs.Code.Readers.{FirstElementRead, IntegerRead, ObjectRead}
 use Rattle.component.proofs.ElementLaws.{found, ends}
 use Rattle.octets.proofs.Places.{rest}
 
@@ -54,7 +54,7 @@ no-integer q = record { is = q; rest = refl; within = omega arith }
 pub no-object : {s : List ℕ} {e : Element} → none ≡ objectIn e → ObjectRead s object.Other e
 no-object q = record { is = q; rest = refl; within = omega arith }
 
-module _ {s : List ℕ} {r : FirstElement} {e : Element} (f : Found s r e) {tag n : ℕ} (q : r ≡ first.Whole tag n) where
+module _ {s : List ℕ} {r : FirstElement} {e : Element} (f : FirstElementRead s r e) {tag n : ℕ} (q : r ≡ first.Whole tag n) where
   pub one : tag ≡ 2 → n ≡ 1 → IntegerRead s (integer.Whole (One (getD s 2 0)) 3) e
   one t h =
       let w : n + 2 ≤ length s = ends f q in
@@ -81,11 +81,11 @@ module _ {s : List ℕ} {r : FirstElement} {e : Element} (f : Found s r e) {tag 
   no-contents t h = no-object (rw (found f q, h, eq-eqb tag 6 t))
 
 -- ---- what a reader said, in the parts that the code passes on
-module _ {s : List ℕ} {r : Integer} {e : Element} (f : IntegerRead s r e) where
+module _ {s : List ℕ} {r : FirstInteger} {e : Element} (f : IntegerRead s r e) where
   pub integer-is : {o : IntegerOctets} {n : ℕ} → r ≡ integer.Whole o n → integerIn e ≡ some o
   integer-is q = sym (f .is) ∙ rw q
 
-  pub integer-rest : {o : IntegerOctets} {n : ℕ} → r ≡ integer.Whole o n → after e ≡ take (length s - n) (drop n s)
+  pub integer-rest : {o : IntegerOctets} {n : ℕ} → r ≡ integer.Whole o n → restOf e ≡ take (length s - n) (drop n s)
   integer-rest {o} {n} q = rw q at (sym (f .rest)) ∙ sym (rest n s)
 
   pub integer-ends : {o : IntegerOctets} {n : ℕ} → r ≡ integer.Whole o n → n ≤ length s
@@ -94,11 +94,11 @@ module _ {s : List ℕ} {r : Integer} {e : Element} (f : IntegerRead s r e) wher
   pub integer-none : r ≡ integer.Other → integerIn e ≡ none
   integer-none q = sym (f .is) ∙ rw q
 
-module _ {s : List ℕ} {r : Object} {e : Element} (f : ObjectRead s r e) where
+module _ {s : List ℕ} {r : FirstObject} {e : Element} (f : ObjectRead s r e) where
   pub object-is : {n : ℕ} → r ≡ object.Whole n → objectIn e ≡ some (take (n + 2 - 2) (drop 2 s))
   object-is q = sym (f .is) ∙ rw (q, add-sub-cancel)
 
-  pub object-rest : {n : ℕ} → r ≡ object.Whole n → after e ≡ take (length s - (n + 2)) (drop (n + 2) s)
+  pub object-rest : {n : ℕ} → r ≡ object.Whole n → restOf e ≡ take (length s - (n + 2)) (drop (n + 2) s)
   object-rest {n} q = rw q at (sym (f .rest)) ∙ sym (rest (n + 2) s)
 
   pub object-ends : {n : ℕ} → r ≡ object.Whole n → n + 2 ≤ length s

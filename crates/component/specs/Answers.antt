@@ -40,6 +40,10 @@ answerOctets (answer.LinkIdNotAssigned i) = element 0xA3 (integer i ++ element 0
 answerOctets (answer.Result i) = element 0xA2 (integer i)
 answerOctets (answer.LinkIdResult i l) = element 0xA2 (integer i ++ element 0x30 (element 0x06 (ectObject 0x04) ++ integer (fewest (l .0))))
 
--- "count 1, component in 32 octets, zero filled" (document 01, "Reply records")
+-- "component in 32 octets, zero filled" (document 01, "Reply records")
+abbrev pub filled : List ℕ → List ℕ
+filled c = c ++ replicate (32 - length c) 0
+
+-- the component that answers, with its "count 1"
 unfoldable pub encoded : Answer → Component
-encoded a = record { octets = answerOctets a ++ replicate (32 - length (answerOctets a)) 0; count = length (answerOctets a) }
+encoded a = record { octets = filled (answerOctets a); count = length (answerOctets a) }

@@ -9,7 +9,7 @@ use lib.ListN.{length}
 use Rattle.octets.specs.declared.IntegerOctets.{IntegerOctets}
 use Rattle.octets.specs.declared.IntegerOctets.the-variants.{One, Two}
 use Rattle.octets.specs.Lists.{sameOctets}
-use Rattle.octets.specs.Numbers.{integerOf, sameLinkId}
+use Rattle.octets.specs.Numbers.{integerOf, sameInteger}
 use Rattle.component.specs.declared.Operation.{Operation}
 use Rattle.component.specs.declared.Operation.the-variants.{EctExecute, ExplicitEctExecute, EctLinkIdRequest}
 use Rattle.component.specs.declared.Reject.{Reject}
@@ -35,9 +35,10 @@ abbrev pub objectIn : Element → Option (List ℕ)
 objectIn Bad = none
 objectIn (Whole tag contents rest) = cond (eqb tag 6 && leb 1 (length contents)) (some contents) none
 
-abbrev pub after : Element → List ℕ
-after Bad = []
-after (Whole tag contents rest) = rest
+-- the octets after the element
+abbrev pub restOf : Element → List ℕ
+restOf Bad = []
+restOf (Whole tag contents rest) = rest
 
 -- "object identifier 04 00 82 71 01 then" one more
 abbrev pub ectObject : ℕ → List ℕ
@@ -61,10 +62,10 @@ objectReading i (some o) rest = globalReading i o rest
 
 -- "Operation: local 6 EctExecute; .. Else invoke problem 1."
 abbrev pub localReading : IntegerOctets → IntegerOctets → Reading
-localReading i o = cond (sameLinkId (integerOf o) (pos 6)) (Invoked i EctExecute) (Rejected (Invoke i 1))
+localReading i o = cond (sameInteger (integerOf o) (pos 6)) (Invoked i EctExecute) (Rejected (Invoke i 1))
 
 abbrev pub operationReading : IntegerOctets → Option IntegerOctets → Element → Reading
-operationReading i none e = objectReading i (objectIn e) (after e)
+operationReading i none e = objectReading i (objectIn e) (restOf e)
 operationReading i (some o) e = localReading i o
 
 -- what follows the invoke identifier
@@ -78,7 +79,7 @@ identifierReading (some i) rest = identifiedReading i rest
 
 -- the contents of an invoke
 unfoldable pub invokeReading : List ℕ → Reading
-invokeReading s = identifierReading (integerIn (firstElement s)) (after (firstElement s))
+invokeReading s = identifierReading (integerIn (firstElement s)) (restOf (firstElement s))
 
 -- "Length octet absent or not exactly count minus 2, or contents not whole elements: general problem 2." "depth 5 is bad structure"
 abbrev pub framedReading : List ℕ → Reading

@@ -11,11 +11,11 @@ ghost use lib.ListN.{length};
 ghost use Rattle.component.specs.declared.Answer.the-variants.{LinkIdResult};
 ghost use Rattle.component.specs.Answers.{element, integer, rejectOctets, answerOctets};
 ghost use Rattle.component.specs.Reading.{ectObject};
-ghost use Rattle.component.specs.Code.Writers.{blank, Grown, identified};
+ghost use Rattle.component.specs.Code.Writers.{blank, AppendedTo, identified};
 
 // No octets yet: all 32 are zero, and stay so beyond those put in.
 fn empty() -> Component
-    ensures { λ r. ⌜ Grown blank r [] ⌝ }
+    ensures { λ r. ⌜ AppendedTo blank r [] ⌝ }
 {
     Component {
         octets: [0u8; 32],
@@ -27,7 +27,7 @@ impl Component {
     // One octet more.
     fn push(self, octet: u8) -> Component
         requires { ⌜ self .count < 32 ⌝ }
-        ensures { λ r. ⌜ Grown self r (octet ∷ []) ⌝ }
+        ensures { λ r. ⌜ AppendedTo self r (octet ∷ []) ⌝ }
     {
         let at = self.count as usize;
         let mut next = self;
@@ -39,14 +39,14 @@ impl Component {
     // An element with one octet of contents.
     fn push_octet(self, tag: u8, octet: u8) -> Component
         requires { ⌜ self .count + 3 ≤ 32 ⌝ }
-        ensures { λ r. ⌜ Grown self r (element tag (octet ∷ [])) ⌝ }
+        ensures { λ r. ⌜ AppendedTo self r (element tag (octet ∷ [])) ⌝ }
     {
         self.push(tag).push(1).push(octet)
     }
 
     fn push_integer(self, o: IntegerOctets) -> Component
         requires { ⌜ self .count + 4 ≤ 32 ⌝ }
-        ensures { λ r. ⌜ (Grown self r (integer o)) × (r .count ≤ self .count + 4) ⌝ }
+        ensures { λ r. ⌜ (AppendedTo self r (integer o)) × (r .count ≤ self .count + 4) ⌝ }
     {
         match o {
             IntegerOctets::One(a) => self.push_octet(0x02, a),
@@ -57,7 +57,7 @@ impl Component {
     // An object identifier of the supplementary service.
     fn push_object(self, last: u8) -> Component
         requires { ⌜ self .count + 8 ≤ 32 ⌝ }
-        ensures { λ r. ⌜ Grown self r (element 0x06 (ectObject last)) ⌝ }
+        ensures { λ r. ⌜ AppendedTo self r (element 0x06 (ectObject last)) ⌝ }
     {
         self.push(0x06)
             .push(6)
@@ -83,7 +83,7 @@ fn integer_len(o: IntegerOctets) -> u8
 // The tag, the length, which counts `more` octets to follow, and the invoke identifier.
 fn start(tag: u8, id: IntegerOctets, more: u8) -> Component
     requires { ⌜ more ≤ 14 ⌝ }
-    ensures { λ r. ⌜ (Grown blank r (identified tag id more)) × (r .count ≤ 6) ⌝ }
+    ensures { λ r. ⌜ (AppendedTo blank r (identified tag id more)) × (r .count ≤ 6) ⌝ }
 {
     empty()
         .push(tag)
@@ -92,7 +92,7 @@ fn start(tag: u8, id: IntegerOctets, more: u8) -> Component
 }
 
 fn reject(reject: Reject) -> Component
-    ensures { λ r. ⌜ Grown blank r (rejectOctets reject) ⌝ }
+    ensures { λ r. ⌜ AppendedTo blank r (rejectOctets reject) ⌝ }
 {
     match reject {
         Reject::Null(problem) => empty()
@@ -108,9 +108,9 @@ fn reject(reject: Reject) -> Component
 
 // The result of an EctLinkIdRequest: the identifier, and a sequence of the operation and the LinkId.
 fn link_id_result(id: IntegerOctets, link: LinkId) -> Component
-    ensures { λ r. ⌜ Grown blank r (answerOctets (LinkIdResult id link)) ⌝ }
+    ensures { λ r. ⌜ AppendedTo blank r (answerOctets (LinkIdResult id link)) ⌝ }
 {
-    let o = link.to_octets();
+    let o = link.to_integer().to_octets();
     let len = 8 + integer_len(o);
     start(0xa2, id, len + 2)
         .push(0x30)
@@ -120,7 +120,7 @@ fn link_id_result(id: IntegerOctets, link: LinkId) -> Component
 }
 
 pub fn write(answer: Answer) -> Component
-    ensures { λ r. ⌜ Grown blank r (answerOctets answer) ⌝ }
+    ensures { λ r. ⌜ AppendedTo blank r (answerOctets answer) ⌝ }
 {
     match answer {
         Answer::Rejected(r) => reject(r),

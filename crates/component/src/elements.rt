@@ -1,6 +1,6 @@
 // Elements: a tag octet, a length octet, and that many octets of contents.
 ghost use Rattle.component.specs.Elements.{firstElement, wholeElements};
-ghost use Rattle.component.specs.Code.Readers.{Found, checked, areWhole};
+ghost use Rattle.component.specs.Code.Readers.{FirstElementRead, checked, areWhole};
 ghost use mathlib.Core.Path.{_≡_};
 
 // The first element of some octets.
@@ -18,7 +18,7 @@ pub enum Elements {
 
 // Leaves the contents unread.
 pub fn first_element(s: &[u8]) -> FirstElement
-    ensures { λ r. ⌜ Found (now (s .entry)) r (firstElement (now (s .entry))) ⌝ }
+    ensures { λ r. ⌜ FirstElementRead (now (s .entry)) r (firstElement (now (s .entry))) ⌝ }
 {
     if s.len() < 2 {
         return FirstElement::Bad;
@@ -39,7 +39,7 @@ pub fn first_element(s: &[u8]) -> FirstElement
 
 // The first element, whose contents may nest `depth` deep.
 pub fn read_element(s: &[u8], depth: u8) -> FirstElement
-    ensures { λ r. ⌜ Found (now (s .entry)) r (checked (wholeElements depth) (firstElement (now (s .entry)))) ⌝ }
+    ensures { λ r. ⌜ FirstElementRead (now (s .entry)) r (checked (wholeElements depth) (firstElement (now (s .entry)))) ⌝ }
 {
     let FirstElement::Whole { tag, len } = first_element(s) else {
         return FirstElement::Bad;

@@ -5,10 +5,11 @@ use crate::Reading;
 use crate::Reject;
 use crate::elements::Elements;
 use crate::elements::read_elements;
-use crate::values::Integer;
-use crate::values::Object;
+use crate::values::FirstInteger;
+use crate::values::FirstObject;
 use crate::values::read_integer;
 use crate::values::read_object;
+use octets::Integer;
 use octets::IntegerOctets;
 use octets::LinkId;
 ghost use mathlib.Core.Path.{_≡_};
@@ -36,12 +37,12 @@ pub fn is_ect_object(contents: &[u8], last: u8) -> bool
 pub fn read_link_id(id: IntegerOctets, s: &[u8]) -> Reading
     ensures { λ r. ⌜ r ≡ linkIdReading id (integerIn (firstElement (now (s .entry)))) ⌝ }
 {
-    let Integer::Whole { octets, next: _ } = read_integer(s) else {
+    let FirstInteger::Whole { octets, next: _ } = read_integer(s) else {
         return Reading::Rejected(Reject::Invoke(id, 2));
     };
     Reading::Invoked(
         id,
-        Operation::ExplicitEctExecute(LinkId::from_octets(octets)),
+        Operation::ExplicitEctExecute(LinkId::from_integer(Integer::from_octets(octets))),
     )
 }
 
@@ -49,7 +50,7 @@ pub fn read_link_id(id: IntegerOctets, s: &[u8]) -> Reading
 pub fn read_local(id: IntegerOctets, value: IntegerOctets) -> Reading
     ensures { λ r. ⌜ r ≡ localReading id value ⌝ }
 {
-    if LinkId::from_octets(value).same(LinkId(6)) {
+    if Integer::from_octets(value).same(Integer(6)) {
         return Reading::Invoked(id, Operation::EctExecute);
     }
     Reading::Rejected(Reject::Invoke(id, 1))
@@ -72,10 +73,10 @@ pub fn read_global(id: IntegerOctets, value: &[u8], rest: &[u8]) -> Reading
 pub fn read_operation(id: IntegerOctets, s: &[u8]) -> Reading
     ensures { λ r. ⌜ r ≡ identifiedReading id (now (s .entry)) ⌝ }
 {
-    if let Integer::Whole { octets, next: _ } = read_integer(s) {
+    if let FirstInteger::Whole { octets, next: _ } = read_integer(s) {
         return read_local(id, octets);
     }
-    let Object::Whole { len } = read_object(s) else {
+    let FirstObject::Whole { len } = read_object(s) else {
         return Reading::Rejected(Reject::General(id, 1));
     };
     read_global(id, &s[2..len + 2], &s[len + 2..])
@@ -85,7 +86,7 @@ pub fn read_operation(id: IntegerOctets, s: &[u8]) -> Reading
 pub fn read_invoke(s: &[u8]) -> Reading
     ensures { λ r. ⌜ r ≡ invokeReading (now (s .entry)) ⌝ }
 {
-    let Integer::Whole { octets, next } = read_integer(s) else {
+    let FirstInteger::Whole { octets, next } = read_integer(s) else {
         return Reading::Rejected(Reject::Null(1));
     };
     read_operation(octets, &s[next..])

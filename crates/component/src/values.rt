@@ -6,56 +6,56 @@ ghost use Rattle.component.specs.Elements.{firstElement};
 ghost use Rattle.component.specs.Code.Readers.{IntegerRead, ObjectRead};
 
 // The first element as an integer.
-pub enum Integer {
+pub enum FirstInteger {
     // Its octets, and where the octets after it begin.
     Whole { octets: IntegerOctets, next: usize },
     Other,
 }
 
 // The first element as an object identifier.
-pub enum Object {
+pub enum FirstObject {
     // How many octets of contents follow the tag and the length.
     Whole { len: usize },
     Other,
 }
 
 // An integer has one or two octets of contents.
-pub fn read_integer(s: &[u8]) -> Integer
+pub fn read_integer(s: &[u8]) -> FirstInteger
     ensures { λ r. ⌜ IntegerRead (now (s .entry)) r (firstElement (now (s .entry))) ⌝ }
 {
     let FirstElement::Whole { tag, len } = first_element(s) else {
-        return Integer::Other;
+        return FirstInteger::Other;
     };
     if tag != 0x02 {
-        return Integer::Other;
+        return FirstInteger::Other;
     }
     if len == 1 {
-        return Integer::Whole {
+        return FirstInteger::Whole {
             octets: IntegerOctets::One(s[2]),
             next: 3,
         };
     }
     if len == 2 {
-        return Integer::Whole {
+        return FirstInteger::Whole {
             octets: IntegerOctets::Two(s[2], s[3]),
             next: 4,
         };
     }
-    Integer::Other
+    FirstInteger::Other
 }
 
 // An object identifier has one octet of contents or more.
-pub fn read_object(s: &[u8]) -> Object
+pub fn read_object(s: &[u8]) -> FirstObject
     ensures { λ r. ⌜ ObjectRead (now (s .entry)) r (firstElement (now (s .entry))) ⌝ }
 {
     let FirstElement::Whole { tag, len } = first_element(s) else {
-        return Object::Other;
+        return FirstObject::Other;
     };
     if tag != 0x06 {
-        return Object::Other;
+        return FirstObject::Other;
     }
     if len == 0 {
-        return Object::Other;
+        return FirstObject::Other;
     }
-    Object::Whole { len }
+    FirstObject::Whole { len }
 }

@@ -1,4 +1,4 @@
--- LinkIds by cases on the sign: what signed arithmetic at sixteen bits gives, the octets, and reading back what is written. Assumes nothing.
+-- Integers and LinkIds by cases on the sign: what signed arithmetic at sixteen bits gives, the octets, and reading back what is written. Assumes nothing.
 use Prim.Native.Nat.{ℕ, zero, suc, _+_, _-_, _*_, _/_, _%_, _≤_, _<_}
 use native.Mathlib.Omega.{arith}
 use native.Mathlib.Decide.{ℕ-discrete, decLt}
@@ -11,8 +11,9 @@ use mir.Syntax.{w16}
 use mir.Val.{Fits, SFits, ofZ}
 use borrow.Author.Tests.{lt-ltb, le-ltb, eq-eqb, ne-eqb}
 use Rattle.octets.specs.declared.IntegerOctets.the-variants.{One, Two}
+use Rattle.octets.specs.declared.Integer.{Integer}
 use Rattle.octets.specs.declared.LinkId.{LinkId}
-use Rattle.octets.specs.Numbers.{signed, bits, integerOf, fewest, nextLinkId, sameLinkId}
+use Rattle.octets.specs.Numbers.{signed, bits, integerOf, fewest, nextLinkId, sameInteger}
 
 no-way : {A : Type 0} → false ≡ true → A
 no-way e = absurd (let z : _≡_ {A = ℕ} 0 1 = cc in omega arith)
@@ -20,6 +21,10 @@ no-way e = absurd (let z : _≡_ {A = ℕ} 0 1 = cc in omega arith)
 -- a LinkId is its number
 pub link : {x y : ℤ} → x ≡ y → _≡_ {A = LinkId} (record { 0 = x }) (record { 0 = y })
 link e = ap (λ (z : ℤ). record { 0 = z }) e
+
+-- and an integer of a component its own
+pub integer : {x y : ℤ} → x ≡ y → _≡_ {A = Integer} (record { 0 = x }) (record { 0 = y })
+integer e = ap (λ (z : ℤ). record { 0 = z }) e
 
 -- ---- -1 - z
 pub less-pos : (k : ℕ) → negsuc 0 -ℤ pos k ≡ negsuc k
@@ -71,8 +76,8 @@ pub next-wraps : (z : ℤ) → SFits w16 z → ofZ w16 z ≡ 32767 → negsuc 32
 next-wraps (pos n) f h = simp (eq-eqb n 32767 h)
 next-wraps (negsuc n) f h = absurd (omega (arith, f .sfits))
 
--- ---- LinkIds are the same where their bits are
-pub same-is : (x y : ℤ) → SFits w16 x → SFits w16 y → eqb (ofZ w16 x) (ofZ w16 y) ≡ sameLinkId x y
+-- ---- integers are the same where their bits are
+pub same-is : (x y : ℤ) → SFits w16 x → SFits w16 y → eqb (ofZ w16 x) (ofZ w16 y) ≡ sameInteger x y
 same-is (pos m) (pos n) f g = refl
 same-is (pos m) (negsuc n) f g = ne-eqb m (65536 - suc n) (λ (h : m ≡ 65536 - suc n). apart f g h)
   where

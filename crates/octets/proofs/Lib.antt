@@ -1,6 +1,7 @@
 -- Laws of lists, numbers and LinkIds, for the proofs of this crate and of those above it.
+pub mod Appending
 pub mod Laws
 pub mod Lists
 pub mod Loops
 pub mod Places
-pub mod SameLinkId
+pub mod SameInteger

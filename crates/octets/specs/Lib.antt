@@ -3,3 +3,4 @@ pub mod Lists
 pub mod Tests
 pub mod Numbers
 pub mod Buffers
+pub mod Code

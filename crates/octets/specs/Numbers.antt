@@ -36,6 +36,13 @@ abbrev pub integerOf : IntegerOctets → ℤ
 integerOf (One a) = cond (ltb a 128) (pos a) (negsuc (255 - a))
 integerOf (Two a b) = signed (a * 256 + b)
 
+-- two integers are the same
+abbrev pub sameInteger : ℤ → ℤ → Bool
+sameInteger (pos m) (pos n) = eqb m n
+sameInteger (pos m) (negsuc n) = false
+sameInteger (negsuc m) (pos n) = false
+sameInteger (negsuc m) (negsuc n) = eqb m n
+
 -- "LinkId in fewest octets": one from -128 to 127, else two
 abbrev pub fewest : ℤ → IntegerOctets
 fewest (pos n) = cond (ltb n 128) (One n) (Two (n / 256) (n % 256))
@@ -45,10 +52,3 @@ fewest (negsuc n) = cond (ltb n 128) (One (255 - n)) (Two ((65535 - n) / 256) ((
 abbrev pub nextLinkId : ℤ → ℤ
 nextLinkId (pos n) = cond (eqb n 32767) (negsuc 32767) (pos (suc n))
 nextLinkId (negsuc n) = sucℤ (negsuc n)
-
--- two LinkIds are the same
-abbrev pub sameLinkId : ℤ → ℤ → Bool
-sameLinkId (pos m) (pos n) = eqb m n
-sameLinkId (pos m) (negsuc n) = false
-sameLinkId (negsuc m) (pos n) = false
-sameLinkId (negsuc m) (negsuc n) = eqb m n

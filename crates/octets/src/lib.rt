@@ -1,12 +1,15 @@
 // Numbers as octets: call references, LinkIds, and the integers of a component.
 ghost use mathlib.Core.Path.{_≡_};
-ghost use Rattle.octets.specs.Numbers.{signed, bits, integerOf, fewest, nextLinkId, sameLinkId};
+ghost use Rattle.octets.specs.Numbers.{signed, bits, integerOf, fewest, nextLinkId, sameInteger};
 
 // A call reference: unsigned; its low 15 bits are not all zero where a board is sound.
 pub struct CallReference(pub u16);
 
 // A LinkId: from -32768 to 32767, and negative ones are ordinary.
 pub struct LinkId(pub i16);
+
+// An integer of a component: from -32768 to 32767, two's complement in one or two octets.
+pub struct Integer(pub i16);
 
 // The contents of an integer element: one octet, or two with the high one first.
 pub enum IntegerOctets {
@@ -15,15 +18,42 @@ pub enum IntegerOctets {
 }
 
 impl LinkId {
-    // The LinkId whose two's complement is these sixteen bits. A negative one is counted down from -1,
+    // The LinkId that an integer says.
+    pub fn from_integer(integer: Integer) -> LinkId
+        ensures { λ r. ⌜ r ≡ record { 0 = integer .0 } ⌝ }
+    {
+        LinkId(integer.0)
+    }
+
+    pub fn to_integer(self) -> Integer
+        ensures { λ r. ⌜ r ≡ record { 0 = self .0 } ⌝ }
+    {
+        Integer(self.0)
+    }
+
+    // The LinkId after this one.
+    pub fn next(self) -> LinkId
+        ensures { λ r. ⌜ r ≡ record { 0 = nextLinkId (self .0) } ⌝ }
+    {
+        let z = self.0;
+        if z == 32767 {
+            LinkId(-32768)
+        } else {
+            LinkId(z + 1)
+        }
+    }
+}
+
+impl Integer {
+    // The integer whose two's complement is these sixteen bits. A negative one is counted down from -1,
     // so that no step leaves sixteen bits.
-    pub fn from_bits(n: u16) -> LinkId
+    pub fn from_bits(n: u16) -> Integer
         ensures { λ r. ⌜ r ≡ record { 0 = signed n } ⌝ }
     {
         if n < 32768 {
-            LinkId(n as i16)
+            Integer(n as i16)
         } else {
-            LinkId(-1 - ((65535 - n) as i16))
+            Integer(-1 - ((65535 - n) as i16))
         }
     }
 
@@ -39,41 +69,29 @@ impl LinkId {
         }
     }
 
-    // The LinkId after this one.
-    pub fn next(self) -> LinkId
-        ensures { λ r. ⌜ r ≡ record { 0 = nextLinkId (self .0) } ⌝ }
-    {
-        let z = self.0;
-        if z == 32767 {
-            LinkId(-32768)
-        } else {
-            LinkId(z + 1)
-        }
-    }
-
-    pub fn same(self, other: LinkId) -> bool
-        ensures { λ r. ⌜ r ≡ sameLinkId (self .0) (other .0) ⌝ }
+    pub fn same(self, other: Integer) -> bool
+        ensures { λ r. ⌜ r ≡ sameInteger (self .0) (other .0) ⌝ }
     {
         self.0 == other.0
     }
 
-    // The LinkId that an integer element says. One octet is widened by its sign.
-    pub fn from_octets(o: IntegerOctets) -> LinkId
+    // The integer that an element says. One octet is widened by its sign.
+    pub fn from_octets(o: IntegerOctets) -> Integer
         ensures { λ r. ⌜ r ≡ record { 0 = integerOf o } ⌝ }
     {
         match o {
             IntegerOctets::One(a) => {
                 if a < 128 {
-                    LinkId::from_bits(a as u16)
+                    Integer::from_bits(a as u16)
                 } else {
-                    LinkId::from_bits(65280 + (a as u16))
+                    Integer::from_bits(65280 + (a as u16))
                 }
             }
-            IntegerOctets::Two(a, b) => LinkId::from_bits((a as u16) * 256 + (b as u16)),
+            IntegerOctets::Two(a, b) => Integer::from_bits((a as u16) * 256 + (b as u16)),
         }
     }
 
-    // The fewest octets that say this LinkId: one where the high octet only repeats the sign.
+    // The fewest octets that say this integer: one where the high octet only repeats the sign.
     pub fn to_octets(self) -> IntegerOctets
         ensures { λ r. ⌜ r ≡ fewest (self .0) ⌝ }
     {

@@ -1,30 +1,16 @@
--- Octets put in one part after the other are put in at once; from all zeros they are those of the records, and then zeros. Assumes nothing.
+-- Records written one after the other are written at once; from all zeros the octets are those of the records, and then zeros. Assumes nothing.
 use Prim.Native.Nat.{ℕ, _+_, _-_, _≤_}
 use native.Mathlib.Omega.{arith}
 use mathlib.Core.Path.{_≡_, refl, sym, ap, _∙_}
 use mathlib.Core.List.{List, [], _∷_, _++_, append-assoc, append-nil}
 use lib.ListN.{length, replicate, length-append}
-use lib.Seq.{sets-eq, take-all, take-append-seam, paste}
+use lib.Seq.{take-append-seam}
 use Rattle.component.specs.declared.Answer.{Answer}
-use Rattle.component.proofs.WriterLaws.{sets-append, drop-zeros}
+use Rattle.octets.proofs.Appending.{join, zero-filled}
 use Rattle.rules.specs.Replies.{Number, ReplyRecord, Reply, Tell, Drop, Gone, recordOctets, octets}
 use Rattle.replies.specs.declared.Out.{Out}
-use Rattle.replies.specs.Code.Writing.{rendered, written, blank, appended, Grown, Adds}
+use Rattle.replies.specs.Code.Writing.{rendered, written, blank, AppendedTo, Adds}
 use Rattle.replies.proofs.Room.{reply-room, tell-room, drop-room, gone-room}
-
-pub join : {a b c : Out} {x y : List ℕ} → Grown a b x → Grown b c y → Grown a c (x ++ y)
-join {a} {b} {c} {x} {y} p q =
-    record {
-      is =
-          let e : a .len + length x + length y ≡ a .len + length (x ++ y) = omega (arith, length-append x y) in
-          q .is ∙ rw (p .is, sets-append, e);
-      long = omega (arith, p .long, q .long, length-append x y);
-    }
-
--- a part copied behind what is there
-pub pasted : (o : Out) (s os : List ℕ) (n : ℕ) → o .len + length s ≤ length (o .octets) → n ≡ length s → os ≡ paste (o .octets) (o .len) s n → Grown o (record { octets = os; len = o .len + n }) s
-pasted o s os n h e p =
-    record { is = rw (p, e, take-all (length s) s (omega arith), sets-eq s (o .octets) (o .len) h); long = rw e }
 
 -- ---- records
 
@@ -34,26 +20,26 @@ octets-append [] ss = refl
 octets-append (r ∷ rs) ss = rw (octets-append rs ss) (sym (append-assoc (recordOctets r) (octets rs) (octets ss)))
 
 -- one record, by its octets
-one : {a b : Out} (r : ReplyRecord) (n : ℕ) → length (octets (r ∷ [])) ≡ n → Grown a b (recordOctets r) → Adds a b (r ∷ []) n
+one : {a b : Out} (r : ReplyRecord) (n : ℕ) → length (octets (r ∷ [])) ≡ n → AppendedTo a b (recordOctets r) → Adds a b (r ∷ []) n
 unfolding octets
 one {a} {b} r n e g =
-    let h : Grown a b (recordOctets r ++ []) = rw (append-nil (recordOctets r)) g in
-    record { grown = h; room = omega (arith, h .long, e) }
+    let h : AppendedTo a b (recordOctets r ++ []) = rw (append-nil (recordOctets r)) g in
+    record { appended = h; room = omega (arith, h .counted, e) }
 
-pub reply : {a b : Out} {r : ℕ} {x : Answer} → Grown a b (recordOctets (Reply r x)) → Adds a b (Reply r x ∷ []) 36
+pub reply : {a b : Out} {r : ℕ} {x : Answer} → AppendedTo a b (recordOctets (Reply r x)) → Adds a b (Reply r x ∷ []) 36
 reply {r = r} {x = x} g = one (Reply r x) 36 (reply-room r x) g
 
-pub tell : {a b : Out} {l m d : ℕ} {n : Number} {s : ℕ} → length (n .digits) ≡ 15 → Grown a b (recordOctets (Tell l m d n s)) → Adds a b (Tell l m d n s ∷ []) 25
+pub tell : {a b : Out} {l m d : ℕ} {n : Number} {s : ℕ} → length (n .digits) ≡ 15 → AppendedTo a b (recordOctets (Tell l m d n s)) → Adds a b (Tell l m d n s ∷ []) 25
 tell {l = l} {m = m} {d = d} {n = n} {s = s} h g = one (Tell l m d n s) 25 (tell-room l m d n s h) g
 
-pub dropped : {a b : Out} {r : ℕ} → Grown a b (recordOctets (Drop r)) → Adds a b (Drop r ∷ []) 3
+pub dropped : {a b : Out} {r : ℕ} → AppendedTo a b (recordOctets (Drop r)) → Adds a b (Drop r ∷ []) 3
 dropped {r = r} g = one (Drop r) 3 (drop-room r) g
 
-pub gone : {a b : Out} {l : ℕ} → Grown a b (recordOctets (Gone l)) → Adds a b (Gone l ∷ []) 5
+pub gone : {a b : Out} {l : ℕ} → AppendedTo a b (recordOctets (Gone l)) → Adds a b (Gone l ∷ []) 5
 gone {l = l} g = one (Gone l) 5 (gone-room l) g
 
 pub also : {a b c : Out} {rs ss : List ReplyRecord} {m n : ℕ} → Adds a b rs m → Adds b c ss n → Adds a c (rs ++ ss) (m + n)
-also {rs = rs} {ss = ss} p q = record { grown = rw (octets-append rs ss) (join (p .grown) (q .grown)); room = omega (arith, p .room, q .room) }
+also {rs = rs} {ss = ss} p q = record { appended = rw (octets-append rs ss) (join (p .appended) (q .appended)); room = omega (arith, p .room, q .room) }
 
 -- ---- from nothing
 
@@ -65,14 +51,9 @@ pub empty : {o : Out} → o ≡ rendered [] → o .len ≡ 0
 unfolding rendered octets
 empty e = ap (λ (x : Out). x .len) e
 
-filled : (x : List ℕ) → length x ≤ 128 → appended blank x ≡ record { octets = x ++ replicate (128 - length x) 0; len = length x }
-filled x h =
-    let e : 0 + length x ≡ length x = omega arith in
-    rw (sets-eq x (replicate 128 0) 0 (omega arith), e, drop-zeros)
-
 pub renders : {o r : Out} {rs : List ReplyRecord} {n : ℕ} → o ≡ rendered [] → length (octets rs) ≤ 128 → Adds o r rs n → r ≡ rendered rs
 unfolding rendered
-renders {rs = rs} s h p = p .grown .is ∙ rw (s ∙ sym silent) (filled (octets rs) h)
+renders s h p = zero-filled {A = Out} (λ os n. record { octets = os; len = n }) 128 (rw (s ∙ sym silent) at (p .appended)) h
 
 -- ---- what callers know of it
 

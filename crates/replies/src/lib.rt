@@ -11,7 +11,7 @@ ghost use lib.ListN.{length};
 ghost use Rattle.octets.specs.Numbers.{four};
 ghost use Rattle.rules.specs.Replies.{Reply, Tell, Drop, Gone, markOnly, numberAsTold, told};
 ghost use Rattle.rules.specs.Replies.{facility, transferredActive};
-ghost use Rattle.replies.specs.Code.Writing.{Grown, Adds, rendered, numberTold, transferRecords};
+ghost use Rattle.replies.specs.Code.Writing.{AppendedTo, Adds, rendered, numberTold, transferRecords};
 
 const FACILITY: u8 = 0;
 
@@ -95,7 +95,7 @@ impl Out {
     // The octets of the part after those written.
     fn push_part(self, part: &[u8]) -> Out
         requires { ⌜ self .len + length (now part) ≤ 128 ⌝ }
-        ensures { λ r. ⌜ Grown self r (now (part .entry)) ⌝ }
+        ensures { λ r. ⌜ AppendedTo self r (now (part .entry)) ⌝ }
     {
         let at = self.len;
         let mut out = self;

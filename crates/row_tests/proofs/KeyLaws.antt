@@ -9,7 +9,7 @@ use lib.IntN.{ℤ, pos, negsuc}
 use lib.Signed.{mag}
 use borrow.Author.Tests.{ne-eqb}
 use Rattle.octets.specs.Tests.{noneOr, hasBoth, bit}
-use Rattle.octets.specs.Numbers.{bits, sameLinkId}
+use Rattle.octets.specs.Numbers.{bits, sameInteger}
 use Rattle.octets.proofs.Lists.{same-tests, eqb-eq, eqb-of}
 use Rattle.board.specs.declared.OptionalLinkId.{OptionalLinkId}
 use Rattle.board.specs.declared.OptionalLinkId.the-variants.{Absent, Present}
@@ -34,7 +34,7 @@ number-odd (negsuc m) n f e h = omega arith
 
 -- ---- two LinkIds by their numbers
 
-pub same-number : (y z : ℤ) → sameLinkId y z ≡ eqb (linkNumber y) (linkNumber z)
+pub same-number : (y z : ℤ) → sameInteger y z ≡ eqb (linkNumber y) (linkNumber z)
 same-number (pos m) (pos n) = same-tests (λ t. eqb-of (m * 2) (n * 2) (ap (λ (k : ℕ). k * 2) (eqb-eq m n t))) (λ t. let e = eqb-eq (m * 2) (n * 2) t in eqb-of m n (omega arith))
 same-number (pos m) (negsuc n) = sym (ne-eqb (m * 2) (n * 2 + 1) (λ e. omega arith))
 same-number (negsuc m) (pos n) = sym (ne-eqb (m * 2 + 1) (n * 2) (λ e. omega arith))

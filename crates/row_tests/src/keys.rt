@@ -30,7 +30,7 @@ pub struct Joint {
 fn link_number(link: LinkId) -> u32
     ensures { λ r. ⌜ r ≡ linkNumber (link .0) ⌝ }
 {
-    let n = link.to_bits();
+    let n = link.to_integer().to_bits();
     if n < 32768 {
         (n as u32) * 2
     } else {

@@ -1,17 +1,17 @@
 -- Errors and refusals leave the board as it was.
-use Prim.Native.Nat.{_-_, ℕ}
+use Prim.Native.Nat.{ℕ}
 use mathlib.Core.Path.{_≡_, refl}
 use mathlib.Core.Bool.{Bool, false, true, cond}
 use mathlib.Core.List.{_++_, _∷_, List, []}
 use lib.Dec.{eqb, ltb}
-use lib.ListN.{getD, replicate, length}
+use lib.ListN.{getD}
 use Rattle.board.specs.declared.Connection.{Connection}
 use Rattle.board.specs.declared.Connection.the-variants.{WithUser, WithPartner}
 use Rattle.board.specs.declared.Party.{Party}
 use Rattle.board.specs.Soundness.{sound}
 use Rattle.board.specs.States.{delivered}
 use Rattle.board.specs.declared.Board.{Board}
-use Rattle.component.specs.Answers.{answerOctets}
+use Rattle.component.specs.Answers.{answerOctets, filled}
 use Rattle.rules.proofs.Rows.{fine}
 use Rattle.rules.specs.Checks.{ServeCall, Decision, Refuse, OpenLeg, SetState, SetAuxiliary, ReleaseLeg, EndAlerting, returnedBy}
 use Rattle.events.specs.Refusals.{refusalNumber}
@@ -94,7 +94,7 @@ unharmed b e = go (ltb (e .room) 128) (sound b)
 
 -- ---- an error by the octets is an error by the records
 
-component-tag : (c rest : List ℕ) → errorTag (getD ((c ++ replicate (32 - length c) 0) ++ rest) 0 0) ≡ true → errorTag (getD c 0 0) ≡ true
+component-tag : (c rest : List ℕ) → errorTag (getD (filled c ++ rest) 0 0) ≡ true → errorTag (getD c 0 0) ≡ true
 component-tag [] rest h = absurd (true-not-false h refl)
 component-tag (x ∷ c) rest h = h
 

@@ -18,9 +18,9 @@ use Rattle.rules.proofs.Kept.{live-length, first-not-live}
 use Rattle.rules.specs.LinkIdGiven.{InLinkIdRange, LinkIdGiven}
 use Rattle.rules.specs.Serving.{live, error, assign}
 use Rattle.octets.proofs.Lists.{true-not-false, eqb-of, eqb-eq, test, neither, both, any-has, any-of, mem-keep, or-false, left, right, is-not}
-use Rattle.octets.proofs.SameLinkId.{sameLinkId-eq}
+use Rattle.octets.proofs.SameInteger.{sameInteger-eq}
 use Rattle.octets.specs.Lists.{all, any, distinct, keep, consIf}
-use Rattle.octets.specs.Numbers.{nextLinkId, sameLinkId}
+use Rattle.octets.specs.Numbers.{nextLinkId, sameInteger}
 
 -- ---- places of the LinkIds from 0 to 65535
 
@@ -69,15 +69,15 @@ later-next i z y k hz hy l = go l (next-rank y hy)
     go (inr a) (inl b) = inr (omega arith)
     go (inr a) (inr b) = let t : rank z ≤ 65535 = top in let b1 = b .1 in absurd (omega arith)
 
-apart : (i : ℕ) (z y : ℤ) → 1 ≤ i → i ≤ 15 → Later i z y → sameLinkId z y ≡ false
-apart i z y h k l = go (test (sameLinkId z y))
+apart : (i : ℕ) (z y : ℤ) → 1 ≤ i → i ≤ 15 → Later i z y → sameInteger z y ≡ false
+apart i z y h k l = go (test (sameInteger z y))
   where
     clash : rank z ≡ rank y → (rank y ≡ rank z + i) ⊎ (rank y + 65536 ≡ rank z + i) → ⊥
     clash e (inl a) = omega arith
     clash e (inr a) = omega arith
 
-    go : (sameLinkId z y ≡ true) ⊎ (sameLinkId z y ≡ false) → sameLinkId z y ≡ false
-    go (inl t) = absurd (clash (ap rank (sameLinkId-eq z y t)) l)
+    go : (sameInteger z y ≡ true) ⊎ (sameInteger z y ≡ false) → sameInteger z y ≡ false
+    go (inl t) = absurd (clash (ap rank (sameInteger-eq z y t)) l)
     go (inr t) = t
 
 -- ---- the values looked at
@@ -91,14 +91,14 @@ unfolding run
 run-length zero z = refl
 run-length (suc n) z = ap suc (run-length n (nextLinkId z))
 
-run-apart : (m i : ℕ) (z y : ℤ) → 1 ≤ i → i + m ≤ 16 → InLinkIdRange z → InLinkIdRange y → Later i z y → any (sameLinkId z) (run m y) ≡ false
+run-apart : (m i : ℕ) (z y : ℤ) → 1 ≤ i → i + m ≤ 16 → InLinkIdRange z → InLinkIdRange y → Later i z y → any (sameInteger z) (run m y) ≡ false
 unfolding run
 run-apart zero i z y h k hz hy l = refl
 run-apart (suc m) i z y h k hz hy l =
     neither (apart i z y h (omega arith) l)
     (run-apart m (i + 1) z (nextLinkId y) (omega arith) (omega arith) hz (next-in-range y hy) (later-next i z y (omega arith) hz hy l))
 
-run-distinct : (n : ℕ) (z : ℤ) → n ≤ 16 → InLinkIdRange z → distinct sameLinkId (run n z) ≡ true
+run-distinct : (n : ℕ) (z : ℤ) → n ≤ 16 → InLinkIdRange z → distinct sameInteger (run n z) ≡ true
 unfolding run
 run-distinct zero z k h = refl
 run-distinct (suc n) z k h = both (ap not (run-apart n 1 z (nextLinkId z) (le-refl 1) (omega arith) h (next-in-range z h) after)) (run-distinct n (nextLinkId z) (omega arith) (next-in-range z h))
@@ -110,13 +110,13 @@ run-distinct (suc n) z k h = both (ap not (run-apart n 1 z (nextLinkId z) (le-re
     after : Later 1 z (nextLinkId z)
     after = by (next-rank z h)
 
-none-free : (n : ℕ) (z : ℤ) (used : List ℤ) → freeLinkId n z used ≡ none → all (λ (y : ℤ). any (sameLinkId y) used) (run n z) ≡ true
+none-free : (n : ℕ) (z : ℤ) (used : List ℤ) → freeLinkId n z used ≡ none → all (λ (y : ℤ). any (sameInteger y) used) (run n z) ≡ true
 unfolding run
 none-free zero z used e = refl
-none-free (suc n) z used e = go (any (sameLinkId z) used) refl e (none-free n (nextLinkId z) used)
+none-free (suc n) z used e = go (any (sameInteger z) used) refl e (none-free n (nextLinkId z) used)
   where
-    go : (b : Bool) → any (sameLinkId z) used ≡ b → unlessLive b z (freeLinkId n (nextLinkId z) used) ≡ none → (freeLinkId n (nextLinkId z) used ≡ none → all (λ (y : ℤ). any (sameLinkId y) used) (run n (nextLinkId z)) ≡ true) →
-        (any (sameLinkId z) used && all (λ (y : ℤ). any (sameLinkId y) used) (run n (nextLinkId z))) ≡ true
+    go : (b : Bool) → any (sameInteger z) used ≡ b → unlessLive b z (freeLinkId n (nextLinkId z) used) ≡ none → (freeLinkId n (nextLinkId z) used ≡ none → all (λ (y : ℤ). any (sameInteger y) used) (run n (nextLinkId z)) ≡ true) →
+        (any (sameInteger z) used && all (λ (y : ℤ). any (sameInteger y) used) (run n (nextLinkId z))) ≡ true
     go true h e f = both h (f e)
     go false h e f = let z : _≡_ {A = ℕ} 0 1 = cc in absurd (omega arith)
 
@@ -138,22 +138,22 @@ fewer p (x ∷ l) h = go (p x) h (fewer p l)
     go true h f = suc-le-suc (keep-le (λ (x : ℤ). not (p x)) l)
     go false h f = suc-le-suc (f h)
 
-still : (z y : ℤ) (used : List ℤ) → sameLinkId z y ≡ false → any (sameLinkId y) used ≡ true → any (sameLinkId y) (keep (λ (x : ℤ). not (sameLinkId z x)) used) ≡ true
+still : (z y : ℤ) (used : List ℤ) → sameInteger z y ≡ false → any (sameInteger y) used ≡ true → any (sameInteger y) (keep (λ (x : ℤ). not (sameInteger z x)) used) ≡ true
 still z y used h k =
-    let r = any-has (sameLinkId y) used k in
-    any-of (sameLinkId y) (mem-keep (λ (x : ℤ). not (sameLinkId z x)) (r .1) (ap (λ (x : ℤ). not (sameLinkId z x)) (sym (sameLinkId-eq y (r .0) (r .2))) ∙ ap not h)) (r .2)
+    let r = any-has (sameInteger y) used k in
+    any-of (sameInteger y) (mem-keep (λ (x : ℤ). not (sameInteger z x)) (r .1) (ap (λ (x : ℤ). not (sameInteger z x)) (sym (sameInteger-eq y (r .0) (r .2))) ∙ ap not h)) (r .2)
 
-all-still : (z : ℤ) (ys used : List ℤ) → any (sameLinkId z) ys ≡ false → all (λ (y : ℤ). any (sameLinkId y) used) ys ≡ true → all (λ (y : ℤ). any (sameLinkId y) (keep (λ (x : ℤ). not (sameLinkId z x)) used)) ys ≡ true
+all-still : (z : ℤ) (ys used : List ℤ) → any (sameInteger z) ys ≡ false → all (λ (y : ℤ). any (sameInteger y) used) ys ≡ true → all (λ (y : ℤ). any (sameInteger y) (keep (λ (x : ℤ). not (sameInteger z x)) used)) ys ≡ true
 all-still z [] used h k = refl
 all-still z (y ∷ ys) used h k =
-    let r = or-false (sameLinkId z y) (any (sameLinkId z) ys) h in
-    both (still z y used (r .0) (left (any (sameLinkId y) used) _ k)) (all-still z ys used (r .1) (right (any (sameLinkId y) used) _ k))
+    let r = or-false (sameInteger z y) (any (sameInteger z) ys) h in
+    both (still z y used (r .0) (left (any (sameInteger y) used) _ k)) (all-still z ys used (r .1) (right (any (sameInteger y) used) _ k))
 
-no-more : (ys used : List ℤ) → distinct sameLinkId ys ≡ true → all (λ (y : ℤ). any (sameLinkId y) used) ys ≡ true → length ys ≤ length used
+no-more : (ys used : List ℤ) → distinct sameInteger ys ≡ true → all (λ (y : ℤ). any (sameInteger y) used) ys ≡ true → length ys ≤ length used
 no-more [] used h k = zero-le
 no-more (y ∷ ys) used h k =
-    le-trans (suc-le-suc (no-more ys (keep (λ (x : ℤ). not (sameLinkId y x)) used) (right (not (any (sameLinkId y) ys)) _ h) (all-still y ys used (is-not (left (not (any (sameLinkId y) ys)) _ h)) (right (any (sameLinkId y) used) _ k))))
-    (fewer (sameLinkId y) used (left (any (sameLinkId y) used) _ k))
+    le-trans (suc-le-suc (no-more ys (keep (λ (x : ℤ). not (sameInteger y x)) used) (right (not (any (sameInteger y) ys)) _ h) (all-still y ys used (is-not (left (not (any (sameInteger y) ys)) _ h)) (right (any (sameInteger y) used) _ k))))
+    (fewer (sameInteger y) used (left (any (sameInteger y) used) _ k))
 
 -- with fewer than n live, n values hold one that is not
 found : (n : ℕ) (z : ℤ) (used : List ℤ) → n ≤ 16 → InLinkIdRange z → length used < n → (y : ℤ) × (freeLinkId n z used ≡ some y)

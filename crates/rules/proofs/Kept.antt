@@ -39,9 +39,9 @@ use Rattle.rules.specs.LinkIdGiven.{upward, FirstNotLive}
 use Rattle.rules.specs.Situations.{call}
 use Rattle.octets.proofs.Lists.{pick-mem, mem-pick, any-has, right, all-at, true-not-false, eqb-eq, left, is-not, both, any-of, eqb-self, none-by, or-right, all-by, any-map, any-ext, distinct-map, all-map, all-ext}
 use Rattle.octets.proofs.Lists.{map-mem, length-keep-map, small-mem, find-mem, mem-keep, test, or-false, none-of, or-left, is-true, keep-map-le, from-true, eqb-of, neither, keep-mem, distinct-keep, keep-keep-le, mem-map, keep-none, eqb-sym}
-use Rattle.octets.proofs.SameLinkId.{sameLinkId-eq, sameLinkId-self}
+use Rattle.octets.proofs.SameInteger.{sameInteger-eq, sameInteger-self}
 use Rattle.octets.specs.Lists.{any, distinct, keep, consOpt, consIf}
-use Rattle.octets.specs.Numbers.{sameLinkId, nextLinkId}
+use Rattle.octets.specs.Numbers.{sameInteger, nextLinkId}
 use Rattle.octets.specs.declared.IntegerOctets.{IntegerOctets}
 use Rattle.octets.specs.declared.LinkId.{LinkId}
 use Rattle.events.specs.declared.Refusal.the-variants as refusal
@@ -249,25 +249,25 @@ linkId z = record { 0 = z }
 -- a value that is found is the first one that is not live
 pub first-not-live : (n : ℕ) (z : ℤ) (used : List ℤ) {y : ℤ} → freeLinkId n z used ≡ some y → FirstNotLive z used y
 first-not-live zero z used {y} e = let z : _≡_ {A = ℕ} 0 1 = cc in absurd (omega arith)
-first-not-live (suc n) z used {y} e = go (any (sameLinkId z) used) refl e (first-not-live n (nextLinkId z) used {y = y})
+first-not-live (suc n) z used {y} e = go (any (sameInteger z) used) refl e (first-not-live n (nextLinkId z) used {y = y})
   where
-    before : (f : FirstNotLive (nextLinkId z) used y) → any (sameLinkId z) used ≡ true → (m : ℕ) → m < suc (f .steps) → any (sameLinkId (upward m z)) used ≡ true
+    before : (f : FirstNotLive (nextLinkId z) used y) → any (sameInteger z) used ≡ true → (m : ℕ) → m < suc (f .steps) → any (sameInteger (upward m z)) used ≡ true
     before f h zero l = h
     before f h (suc m) l = f .live-before m (omega arith)
 
-    go : (b : Bool) → any (sameLinkId z) used ≡ b → unlessLive b z (freeLinkId n (nextLinkId z) used) ≡ some y → (freeLinkId n (nextLinkId z) used ≡ some y → FirstNotLive (nextLinkId z) used y) → FirstNotLive z used y
+    go : (b : Bool) → any (sameInteger z) used ≡ b → unlessLive b z (freeLinkId n (nextLinkId z) used) ≡ some y → (freeLinkId n (nextLinkId z) used ≡ some y → FirstNotLive (nextLinkId z) used y) → FirstNotLive z used y
     go true h e f = let r = f e in record { steps = suc (r .steps); reached = r .reached; not-live = r .not-live; live-before = before r h }
-    go false h e f = let d : z ≡ y = cc in record { steps = 0; reached = d; not-live = subst (λ (x : ℤ). any (sameLinkId x) used ≡ false) d h; live-before = λ m l. absurd (omega (arith, l)) }
+    go false h e f = let d : z ≡ y = cc in record { steps = 0; reached = d; not-live = subst (λ (x : ℤ). any (sameInteger x) used ≡ false) d h; live-before = λ m l. absurd (omega (arith, l)) }
 
-pub live-any : (z : ℤ) (es : List Entry) → any (sameLinkId z) (live (calls es)) ≡ any (hasLinkId z) es
+pub live-any : (z : ℤ) (es : List Entry) → any (sameInteger z) (live (calls es)) ≡ any (hasLinkId z) es
 live-any z [] = refl
 live-any z (e ∷ es) = go (e .leg) (e .connection) (live-any z es)
   where
-    link : (o : Option ℤ) → any (sameLinkId z) (live (calls es)) ≡ any (hasLinkId z) es → any (sameLinkId z) (consOpt o (live (calls es))) ≡ (isLinkId z o || any (hasLinkId z) es)
+    link : (o : Option ℤ) → any (sameInteger z) (live (calls es)) ≡ any (hasLinkId z) es → any (sameInteger z) (consOpt o (live (calls es))) ≡ (isLinkId z o || any (hasLinkId z) es)
     link none h = h
-    link (some y) h = ap (λ (b : Bool). sameLinkId z y || b) h
+    link (some y) h = ap (λ (b : Bool). sameInteger z y || b) h
 
-    go : (n : ℕ) (t : Connection) → any (sameLinkId z) (live (calls es)) ≡ any (hasLinkId z) es → any (sameLinkId z) (live (consOpt (partyOf n t) (calls es))) ≡ (isLinkId z (linkIdOf t) || any (hasLinkId z) es)
+    go : (n : ℕ) (t : Connection) → any (sameInteger z) (live (calls es)) ≡ any (hasLinkId z) es → any (sameInteger z) (live (consOpt (partyOf n t) (calls es))) ≡ (isLinkId z (linkIdOf t) || any (hasLinkId z) es)
     go n (WithUser c) h = link (linkIdIn (c .link)) h
     go n (WithPartner p a) h = h
 
@@ -297,10 +297,10 @@ module _ (r : ℕ) (z : ℤ) where
 
   not-z : (o : Option ℤ) → isLinkId z o ≡ false → sameLinkIdsIn o (some z) ≡ false
   not-z none h = refl
-  not-z (some y) h = go (test (sameLinkId y z))
+  not-z (some y) h = go (test (sameInteger y z))
     where
-      go : (sameLinkId y z ≡ true) ⊎ (sameLinkId y z ≡ false) → sameLinkId y z ≡ false
-      go (inl t) = absurd (true-not-false (subst (λ (w : ℤ). sameLinkId z w ≡ true) (sym (sameLinkId-eq y z t)) (sameLinkId-self z)) h)
+      go : (sameInteger y z ≡ true) ⊎ (sameInteger y z ≡ false) → sameInteger y z ≡ false
+      go (inl t) = absurd (true-not-false (subst (λ (w : ℤ). sameInteger z w ≡ true) (sym (sameInteger-eq y z t)) (sameInteger-self z)) h)
       go (inr t) = t
 
   given-apart : (a b : Bool) (o u : Option ℤ) → (a && b) ≡ false → isLinkId z o ≡ false → isLinkId z u ≡ false → sameLinkIdsIn o u ≡ false →
@@ -342,7 +342,7 @@ module _ (r : ℕ) (z : ℤ) where
       go true o t = or-right (present o) true refl
       go false o t = or-left (present o) false t
 
-  pub gives-sound : (es : List Entry) → Sound es → leb 16 (length (live (calls es))) ≡ false → any (sameLinkId z) (live (calls es)) ≡ false → Sound (map given es)
+  pub gives-sound : (es : List Entry) → Sound es → leb 16 (length (live (calls es))) ≡ false → any (sameInteger z) (live (calls es)) ≡ false → Sound (map given es)
   gives-sound es s few free =
       call-sound r (withLinkId (linkId z)) (λ c. refl) es s (λ n c m k. all-at validEntry m (s .rights))
       (given-lids es (s .refs) (s .lids) (sym (live-any z es) ∙ free))

@@ -26,7 +26,7 @@ use Rattle.events.specs.EventRecords.{Request, Facility, Malformed, Open, Progr
 use Rattle.rules.specs.Serving.{partyLinkId, linkIdRequest, live, newLinkId, perform, execute, partnerFor, executeExplicitly, serve, ifSubscribed}
 use Rattle.octets.proofs.Lists.{testOpt, keep-pick-le, Perm, length-perm, pick-perm, any-perm, only-perm, keep-perm, find-perm}
 use Rattle.octets.specs.Lists.{keep, any}
-use Rattle.octets.specs.Numbers.{sameLinkId, nextLinkId}
+use Rattle.octets.specs.Numbers.{sameInteger, nextLinkId}
 use Rattle.octets.specs.declared.IntegerOctets.{IntegerOctets}
 use Rattle.events.specs.declared.Refusal.the-variants as refusal
 
@@ -50,7 +50,7 @@ links-one z {es} s =
 
 -- ---- what is decided does not turn on the order
 
-freeLink-same : (u v : List ℤ) → ((z : ℤ) → any (sameLinkId z) u ≡ any (sameLinkId z) v) → (n : ℕ) (z : ℤ) → freeLinkId n z u ≡ freeLinkId n z v
+freeLink-same : (u v : List ℤ) → ((z : ℤ) → any (sameInteger z) u ≡ any (sameInteger z) v) → (n : ℕ) (z : ℤ) → freeLinkId n z u ≡ freeLinkId n z v
 freeLink-same u v h zero z = refl
 freeLink-same u v h (suc n) z = ap₂ (λ (b : Bool) (o : Option ℤ). unlessLive b z o) (h z) (freeLink-same u v h n (nextLinkId z))
 
@@ -58,7 +58,7 @@ request-perm : {l m : List Party} → Perm l m → (z : ℤ) (i : IntegerOctets)
 request-perm {l} {m} p z i none =
     ap₂ (λ (n : ℕ) (f : Option ℤ). newLinkId n i f)
     (length-perm (pick-perm partyLinkId p))
-    (freeLink-same (live l) (live m) (λ y. any-perm (sameLinkId y) (pick-perm partyLinkId p)) 16 z)
+    (freeLink-same (live l) (live m) (λ y. any-perm (sameInteger y) (pick-perm partyLinkId p)) 16 z)
 request-perm p z i (some y) = refl
 
 perform-perm : {l m : List Entry} → Sound l → Perm l m → (opt : Options) (z : ℤ) (p : Party) (i : IntegerOctets) (o : Operation) → perform opt z (calls l) p i o ≡ perform opt z (calls m) p i o

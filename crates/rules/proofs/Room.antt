@@ -1,12 +1,12 @@
 -- An event writes at most 92 octets, so what it writes fits the 128 that are asked for.
-use Prim.Native.Nat.{_+_, _-_, _≤_, ℕ, zero-le}
+use Prim.Native.Nat.{_+_, _≤_, ℕ, zero-le}
 use native.Mathlib.Omega.{arith}
 use mathlib.Core.Path.{_≡_, refl}
 use mathlib.Core.Bool.{_&&_, true, false, Bool, cond}
 use mathlib.Core.List.{_++_, _∷_, List, []}
 use mathlib.Core.Option.{Option, none, some}
 use lib.Dec.{eqb, leb, ltb}
-use lib.ListN.{length, length-append, replicate, length-replicate, take}
+use lib.ListN.{length, length-append, take}
 use Rattle.board.specs.declared.PartyNumber.{PartyNumber}
 use Rattle.board.specs.declared.Connection.{Connection}
 use Rattle.board.specs.declared.Connection.the-variants.{WithUser, WithPartner}
@@ -18,7 +18,7 @@ use Rattle.board.specs.declared.Board.{Board}
 use Rattle.board.specs.declared.Row.{Row}
 use Rattle.board.specs.declared.Standing.{Standing}
 use Rattle.board.specs.declared.Standing.the-variants.{Empty, Served, Joined}
-use Rattle.component.proofs.Length.{answer-length}
+use Rattle.component.proofs.Length.{answer-length, filled-length}
 use Rattle.component.specs.Answers.{answerOctets}
 use Rattle.component.specs.declared.Answer.the-variants.{LinkIdResult, Result}
 use Rattle.rules.specs.Checks.{Decision, Refuse, OpenLeg, SetState, SetAuxiliary, ReleaseLeg, ServeCall, EndAlerting}
@@ -36,11 +36,7 @@ use Rattle.component.specs.declared.Answer.{Answer}
 -- ---- each record
 
 pub reply-length : (r : ℕ) (a : Answer) → length (recordOctets (Reply r a)) ≡ 36
-reply-length r a =
-    let q = length-append (answerOctets a) (replicate (32 - length (answerOctets a)) 0) in
-    let w = length-replicate {A = ℕ} (32 - length (answerOctets a)) 0 in
-    let h = answer-length a in
-    omega arith
+reply-length r a = omega (arith, filled-length (answerOctets a) (answer-length a))
 
 -- the digits of a valid row that is taken
 fifteen : (n : ℕ) (ds : List ℕ) → validDigits n ds ≡ true → length ds ≡ 15

@@ -12,7 +12,6 @@ use Rattle.board.specs.Making.{options, fresh}
 use Rattle.board.specs.Soundness.{validOptions, sound}
 use Rattle.board.specs.declared.Board.{Board}
 use Rattle.board.specs.declared.Call.{Call}
-use Rattle.component.specs.Reading.{after}
 use Rattle.rules.proofs.Agreement.{Together, next, played-together, begun, same-returns, sound-together}
 use Rattle.rules.proofs.Errors.{untouched-step, unharmed, octets-error}
 use Rattle.rules.proofs.Partner.{has-row, Shape, partnerOf, shaped-list, bookAt-append, opened-next, shaped-next, call-stays, joined-stays, joins-some, still-there, alive-stays, shape-there, partner-rows, call-row}

@@ -7,7 +7,7 @@ use mathlib.Core.Option.{none}
 use lib.IntN.{ℤ, pos, negsuc}
 use Rattle.octets.specs.declared.IntegerOctets.{IntegerOctets}
 use Rattle.octets.specs.Lists.{any}
-use Rattle.octets.specs.Numbers.{sameLinkId, nextLinkId}
+use Rattle.octets.specs.Numbers.{sameInteger, nextLinkId}
 use Rattle.rules.specs.Serving.{AssignLinkId, linkIdRequest}
 
 -- "a LinkId runs from -32768 to 32767", as its type i16 has it (`negsuc n` is -(n + 1))
@@ -24,8 +24,8 @@ upward (suc n) z = upward n (nextLinkId z)
 pub record FirstNotLive (candidate : ℤ) (used : List ℤ) (z : ℤ) : Type 0 where
   pub steps : ℕ
   pub reached : upward steps candidate ≡ z
-  pub not-live : any (sameLinkId z) used ≡ false
-  pub live-before : (m : ℕ) → m < steps → any (sameLinkId (upward m candidate)) used ≡ true
+  pub not-live : any (sameInteger z) used ≡ false
+  pub live-before : (m : ℕ) → m < steps → any (sameInteger (upward m candidate)) used ≡ true
 
 -- a call that has no LinkId is given that value: no error, so `assign i none` does not arise
 pub record LinkIdGiven (candidate : ℤ) (used : List ℤ) : Type 0 where

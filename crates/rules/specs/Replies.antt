@@ -1,5 +1,5 @@
 -- Reply records: as data, and as octets (document 01, "Reply records", and what "Serving it" tells the far parties).
-use Prim.Native.Nat.{ℕ, _-_}
+use Prim.Native.Nat.{ℕ}
 use mathlib.Core.Bool.{Bool, true, false, _&&_, _||_, cond}
 use mathlib.Core.List.{List, [], _∷_, _++_}
 use mathlib.Core.Option.{Option, none, some}
@@ -8,7 +8,7 @@ use lib.ListN.{length, replicate, getD}
 use Rattle.octets.specs.Lists.{find}
 use Rattle.octets.specs.Numbers.{two, four}
 use Rattle.component.specs.declared.Answer.{Answer}
-use Rattle.component.specs.Answers.{answerOctets}
+use Rattle.component.specs.Answers.{answerOctets, filled}
 use Rattle.board.specs.declared.PartyNumber.{PartyNumber}
 use Rattle.board.specs.declared.Row.{Row}
 use Rattle.board.specs.States.{delivered}
@@ -28,14 +28,10 @@ pub data ReplyRecord : Type 0 where
   Drop : (reference : ℕ) → ReplyRecord
   Gone : (leg : ℕ) → ReplyRecord
 
--- "count 1, component in 32 octets, zero filled"
-abbrev pub filled : List ℕ → List ℕ
-filled c = length c ∷ (c ++ replicate (32 - length c) 0)
-
 -- "0x81 Reply (35): the event's reference 2, count 1, component in 32 octets, zero filled. 0x82 Tell (24): leg 4, message 1, description 1,
 -- number mark 1, subaddress request 1, digit count 1, digits 15. 0x83 Drop (2): reference. 0x84 Gone (4): leg."
 abbrev pub recordOctets : ReplyRecord → List ℕ
-recordOctets (Reply r a) = 0x81 ∷ (two r ++ filled (answerOctets a))
+recordOctets (Reply r a) = 0x81 ∷ (two r ++ (length (answerOctets a) ∷ filled (answerOctets a)))
 recordOctets (Tell l m d n s) = 0x82 ∷ (four l ++ (m ∷ d ∷ n .mark ∷ s ∷ n .count ∷ n .digits))
 recordOctets (Drop r) = 0x83 ∷ two r
 recordOctets (Gone l) = 0x84 ∷ four l

@@ -1,5 +1,5 @@
 -- The situations that document 01 marks (its section "Situations"), and its worked log, as statements about the rules.
-use Prim.Native.Nat.{ℕ, zero, suc, _+_, _-_}
+use Prim.Native.Nat.{ℕ, zero, suc}
 use mathlib.Core.Path.{_≡_}
 use mathlib.Core.List.{List, [], _∷_, _++_}
 use lib.IntN.{ℤ, pos, negsuc}
@@ -7,7 +7,7 @@ use lib.ListN.{length, replicate}
 use Rattle.octets.specs.declared.IntegerOctets.the-variants.{One}
 use Rattle.octets.specs.Numbers.{fewest}
 use Rattle.component.specs.declared.Answer.the-variants as answer
-use Rattle.component.specs.Answers.{integer}
+use Rattle.component.specs.Answers.{integer, filled}
 use Rattle.board.specs.declared.Direction.the-variants.{Outgoing}
 use Rattle.board.specs.declared.CallState.{CallState}
 use Rattle.board.specs.declared.CallState.the-variants.{CallDelivered, Active}
@@ -35,7 +35,7 @@ abbrev pub holdRecord : ℕ → ℕ → List ℕ
 holdRecord r a = 3 ∷ 0 ∷ r ∷ a ∷ []
 
 abbrev pub facilityRecord : List ℕ → ℕ → List ℕ
-facilityRecord c r = 5 ∷ 0 ∷ r ∷ length c ∷ (c ++ replicate (32 - length c) 0)
+facilityRecord c r = 5 ∷ 0 ∷ r ∷ length c ∷ filled c
 
 abbrev pub ectExecute : List ℕ
 ectExecute = 0xA1 ∷ 0x06 ∷ 0x02 ∷ 0x01 ∷ 0x05 ∷ 0x02 ∷ 0x01 ∷ 0x06 ∷ []

@@ -10,12 +10,12 @@ use Rattle.component.specs.declared.elements.FirstElement.{FirstElement}
 use Rattle.component.specs.declared.elements.FirstElement.the-variants as first
 use Rattle.component.specs.declared.elements.Elements.{Elements}
 use Rattle.component.specs.declared.elements.Elements.the-variants as elements
-use Rattle.component.specs.declared.values.Integer.{Integer}
-use Rattle.component.specs.declared.values.Integer.the-variants as integer
-use Rattle.component.specs.declared.values.Object.{Object}
-use Rattle.component.specs.declared.values.Object.the-variants as object
+use Rattle.component.specs.declared.values.FirstInteger.{FirstInteger}
+use Rattle.component.specs.declared.values.FirstInteger.the-variants as integer
+use Rattle.component.specs.declared.values.FirstObject.{FirstObject}
+use Rattle.component.specs.declared.values.FirstObject.the-variants as object
 use Rattle.component.specs.Elements.{Element, Bad, Whole, constructed}
-use Rattle.component.specs.Reading.{integerIn, objectIn, after}
+use Rattle.component.specs.Reading.{integerIn, objectIn, restOf}
 
 -- the element at the front of s: two octets, contents, and the rest
 abbrev pub elementOf : FirstElement → List ℕ → Element
@@ -28,7 +28,7 @@ elementEnd first.Bad = 0
 elementEnd (first.Whole tag n) = n + 2
 
 -- r says the element e, at the front of s and within it
-pub record Found (s : List ℕ) (r : FirstElement) (e : Element) : Type 0 where
+pub record FirstElementRead (s : List ℕ) (r : FirstElement) (e : Element) : Type 0 where
   pub is : elementOf r s ≡ e
   pub within : elementEnd r ≤ length s
 
@@ -42,40 +42,40 @@ areWhole elements.Whole = true
 areWhole elements.Bad = false
 
 -- ---- integers
-abbrev pub integerOctets : Integer → Option IntegerOctets
+abbrev pub integerOctets : FirstInteger → Option IntegerOctets
 integerOctets (integer.Whole o next) = some o
 integerOctets integer.Other = none
 
-abbrev pub integerEnd : Integer → ℕ
+abbrev pub integerEnd : FirstInteger → ℕ
 integerEnd (integer.Whole o next) = next
 integerEnd integer.Other = 0
 
 -- the octets after it; `other` where it is none
-abbrev pub integerRest : Integer → List ℕ → List ℕ → List ℕ
+abbrev pub integerRest : FirstInteger → List ℕ → List ℕ → List ℕ
 integerRest (integer.Whole o next) s other = drop next s
 integerRest integer.Other s other = other
 
 -- r says what integer the first element e of s is
-pub record IntegerRead (s : List ℕ) (r : Integer) (e : Element) : Type 0 where
+pub record IntegerRead (s : List ℕ) (r : FirstInteger) (e : Element) : Type 0 where
   pub is : integerOctets r ≡ integerIn e
-  pub rest : integerRest r s (after e) ≡ after e
+  pub rest : integerRest r s (restOf e) ≡ restOf e
   pub within : integerEnd r ≤ length s
 
 -- ---- object identifiers
-abbrev pub objectOctets : Object → List ℕ → Option (List ℕ)
+abbrev pub objectOctets : FirstObject → List ℕ → Option (List ℕ)
 objectOctets (object.Whole n) s = some (take n (drop 2 s))
 objectOctets object.Other s = none
 
-abbrev pub objectEnd : Object → ℕ
+abbrev pub objectEnd : FirstObject → ℕ
 objectEnd (object.Whole n) = n + 2
 objectEnd object.Other = 0
 
-abbrev pub objectRest : Object → List ℕ → List ℕ → List ℕ
+abbrev pub objectRest : FirstObject → List ℕ → List ℕ → List ℕ
 objectRest (object.Whole n) s other = drop (n + 2) s
 objectRest object.Other s other = other
 
 -- r says what object identifier the first element e of s is
-pub record ObjectRead (s : List ℕ) (r : Object) (e : Element) : Type 0 where
+pub record ObjectRead (s : List ℕ) (r : FirstObject) (e : Element) : Type 0 where
   pub is : objectOctets r s ≡ objectIn e
-  pub rest : objectRest r s (after e) ≡ after e
+  pub rest : objectRest r s (restOf e) ≡ restOf e
   pub within : objectEnd r ≤ length s

@@ -3,9 +3,9 @@ use Prim.Native.Nat.{ℕ, _+_, _-_}
 use mathlib.Core.Path.{_≡_}
 use mathlib.Core.List.{List, [], _∷_, _++_}
 use lib.ListN.{length, take, replicate}
-use lib.Seq.{sets}
 use Rattle.octets.specs.declared.CallReference.{CallReference}
 use Rattle.octets.specs.declared.IntegerOctets.{IntegerOctets}
+use Rattle.octets.specs.Code.Appending.{Appended}
 use Rattle.component.specs.declared.Answer.the-variants as answer
 use Rattle.replies.specs.declared.Out.{Out}
 use Rattle.replies.specs.declared.Told.{Told}
@@ -23,17 +23,13 @@ written o = take (o .len) (o .octets)
 abbrev pub blank : Out
 blank = record { octets = replicate 128 0; len = 0 }
 
--- o with more octets from its length on
-abbrev pub appended : Out → List ℕ → Out
-appended o more = record { octets = sets (o .octets) (o .len) more; len = o .len + length more }
-
-pub record Grown (o r : Out) (more : List ℕ) : Type 0 where
-  pub is : r ≡ appended o more
-  pub long : r .len ≡ o .len + length more
+-- r is o with more octets from its length on
+abbrev pub AppendedTo : Out → Out → List ℕ → Type 0
+AppendedTo o r more = Appended (o .octets) (o .len) (r .octets) (r .len) more
 
 -- o with these records, in n octets
 pub record Adds (o r : Out) (rs : List ReplyRecord) (n : ℕ) : Type 0 where
-  pub grown : Grown o r (octets rs)
+  pub appended : AppendedTo o r (octets rs)
   pub room : r .len ≡ o .len + n
 
 abbrev pub numberTold : Told → Number

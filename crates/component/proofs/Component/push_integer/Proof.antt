@@ -2,7 +2,7 @@
 use borrow.Author.Needs.{needs}
 use Rattle.component.proofs.Component.push_integer.Statement.{statement}
 use Rattle.component.proofs.Component.push_integer.Tie as tie
-use Rattle.component.proofs.WriterLaws.{join}
+use Rattle.octets.proofs.Appending.{join}
 
 enum-known-o : tie.Need-enum-known-o
 enum-known-o c = search needs

@@ -5,6 +5,9 @@ use Rattle.component.proofs.answers.link_id_result.Tie as tie
 use Rattle.component.specs.Answers.{answerOctets}
 use Rattle.component.proofs.WriterLaws.{sequence}
 
+to-integer-requires : tie.Need-to-integer-requires
+to-integer-requires c κs = search needs
+
 to-octets-requires : tie.Need-to-octets-requires
 to-octets-requires c κs = search needs
 
@@ -37,13 +40,15 @@ unfolding answerOctets
 returns c =
     let s = c .before .before .before .before .start .ensures .0 in
     let n = c .before .before .before .before .before .integer-len .ensures .0 in
-    rw (← c .before .before .before .before .before .before .to-octets .ensures)
-    (sequence (c .before .before .before .before .before .before .before .args .id) (c .before .before .before .before .before .before .to-octets .result) n s (c .before .before .before .push .ensures) (c .before .before .push2 .ensures) (c .before .push-object .ensures) (c .push-integer .ensures .0))
+    let o = rw (c .before .before .before .before .before .before .before .to-integer .ensures) at (c .before .before .before .before .before .before .to-octets .ensures) in
+    rw (← o)
+    (sequence (c .before .before .before .before .before .before .before .before .args .id) (c .before .before .before .before .before .before .to-octets .result) n s (c .before .before .before .push .ensures) (c .before .before .push2 .ensures) (c .before .push-object .ensures) (c .push-integer .ensures .0))
 
 pub link-id-result-spec : {M : Type 1} → statement M
 link-id-result-spec =
     tie.close
     (tie.spec
+    to-integer-requires
     to-octets-requires
     integer-len-requires
     add-len

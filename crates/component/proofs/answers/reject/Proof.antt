@@ -2,7 +2,8 @@
 use borrow.Author.Needs.{needs}
 use Rattle.component.proofs.answers.reject.Statement.{statement}
 use Rattle.component.proofs.answers.reject.Tie as tie
-use Rattle.component.proofs.WriterLaws.{join, follow}
+use Rattle.octets.proofs.Appending.{join}
+use Rattle.component.proofs.WriterLaws.{follow}
 
 enum-known-reject : tie.Need-enum-known-reject
 enum-known-reject c = search needs

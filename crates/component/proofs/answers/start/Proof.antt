@@ -2,7 +2,7 @@
 use borrow.Author.Needs.{needs}
 use Rattle.component.proofs.answers.start.Statement.{statement}
 use Rattle.component.proofs.answers.start.Tie as tie
-use Rattle.component.proofs.WriterLaws.{join}
+use Rattle.octets.proofs.Appending.{join}
 
 empty-requires : tie.Need-empty-requires
 empty-requires c κs = search needs

@@ -19,8 +19,11 @@ returns c = rw (integer-none (c .before .before .read-integer .ensures) (c .enum
 from-octets-requires : tie.Need-from-octets-requires
 from-octets-requires c κs = search needs
 
+from-integer-requires : tie.Need-from-integer-requires
+from-integer-requires c κs = search needs
+
 returns-2 : tie.Need-returns-2
-returns-2 c = rw (c .from-octets .ensures, integer-is (c .before .before .before .before .read-integer .ensures) (c .before .before .octets .given .1))
+returns-2 c = rw (c .from-integer .ensures, c .before .from-octets .ensures, integer-is (c .before .before .before .before .before .read-integer .ensures) (c .before .before .before .octets .given .1))
 
 pub read-link-id-spec : {M : Type 1} → statement M
 read-link-id-spec =
@@ -31,4 +34,5 @@ read-link-id-spec =
     enum-told
     returns
     from-octets-requires
+    from-integer-requires
     returns-2)

@@ -4,7 +4,7 @@ use native.Mathlib.Omega.{arith}
 use mathlib.Core.Path.{_≡_}
 use lib.ListN.{length}
 use lib.Seq.{paste, paste-zero, paste-suc}
-use Rattle.replies.proofs.WritingLaws.{pasted}
+use Rattle.octets.proofs.Appending.{pasted}
 use borrow.Author.Needs.{needs}
 use Rattle.replies.proofs.Out.push_part.Statement.{statement}
 use Rattle.replies.proofs.Out.push_part.Tie as tie
@@ -48,7 +48,7 @@ add-out-2 c = search needs
 returns : tie.Need-returns Inv-loop μ-loop
 returns c =
     let l = long (c .before .before) in
-    pasted (c .before .before .args .self) (c .before .before .args .part .now) (c .before .loop .out .octets) (c .before .loop .i) (omega arith) (omega arith) (c .before .loop .inv .1)
+    pasted (c .before .before .args .self .octets) (c .before .before .args .part .now) (c .before .loop .out .octets) (c .before .before .args .self .len) (c .before .loop .i) (omega arith) (omega arith) (c .before .loop .inv .1)
 
 pub push-part-spec : {M : Type 1} → statement M
 push-part-spec =

@@ -6,7 +6,8 @@ use mathlib.Core.Path.{_≡_}
 use native.Mathlib.Omega.{arith}
 use lib.ListN.{length}
 use Rattle.component.specs.Answers.{encoded}
-use Rattle.replies.proofs.WritingLaws.{join, reply}
+use Rattle.octets.proofs.Appending.{join}
+use Rattle.replies.proofs.WritingLaws.{reply}
 
 full : (c : tie.After-octets) → length (c .before .encode .result .octets) ≡ 32
 full c = search needs

@@ -5,7 +5,8 @@ use Rattle.replies.proofs.Out.push_tell.Tie as tie
 use mathlib.Core.Path.{_≡_}
 use native.Mathlib.Omega.{arith}
 use lib.ListN.{length}
-use Rattle.replies.proofs.WritingLaws.{join, tell}
+use Rattle.octets.proofs.Appending.{join}
+use Rattle.replies.proofs.WritingLaws.{tell}
 
 fifteen : (c : tie.After-digits) → length (c .before .args .number .digits) ≡ 15
 fifteen c = search needs

@@ -1,7 +1,7 @@
--- `octets::LinkId::to_octets` meets its contract. Assumes nothing.
+-- `octets::Integer::to_octets` meets its contract. Assumes nothing.
 use borrow.Author.Needs.{needs}
-use Rattle.octets.proofs.LinkId.to_octets.Statement.{statement}
-use Rattle.octets.proofs.LinkId.to_octets.Tie as tie
+use Rattle.octets.proofs.Integer.to_octets.Statement.{statement}
+use Rattle.octets.proofs.Integer.to_octets.Tie as tie
 use native.Mathlib.Omega.{arith}
 use Rattle.octets.proofs.Laws.{fewest-low, fewest-high, fewest-two}
 

@@ -1,6 +1,6 @@
--- `octets::LinkId::same` meets its contract. Assumes nothing.
-use Rattle.octets.proofs.LinkId.same.Statement.{statement}
-use Rattle.octets.proofs.LinkId.same.Tie as tie
+-- `octets::Integer::same` meets its contract. Assumes nothing.
+use Rattle.octets.proofs.Integer.same.Statement.{statement}
+use Rattle.octets.proofs.Integer.same.Tie as tie
 use borrow.Author.Needs.{sfits-of}
 use Rattle.octets.proofs.Laws.{same-is}
 

@@ -1,6 +1,6 @@
--- `octets::LinkId::to_bits` meets its contract. Assumes nothing.
-use Rattle.octets.proofs.LinkId.to_bits.Statement.{statement}
-use Rattle.octets.proofs.LinkId.to_bits.Tie as tie
+-- `octets::Integer::to_bits` meets its contract. Assumes nothing.
+use Rattle.octets.proofs.Integer.to_bits.Statement.{statement}
+use Rattle.octets.proofs.Integer.to_bits.Tie as tie
 use native.Mathlib.Omega.{arith}
 use lib.IntN.{pos}
 use mir.Syntax.{w16}

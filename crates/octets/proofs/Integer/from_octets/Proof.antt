@@ -1,11 +1,11 @@
--- `octets::LinkId::from_octets` meets its contract. Assumes nothing.
+-- `octets::Integer::from_octets` meets its contract. Assumes nothing.
 use borrow.Author.Needs.{needs}
-use Rattle.octets.proofs.LinkId.from_octets.Statement.{statement}
-use Rattle.octets.proofs.LinkId.from_octets.Tie as tie
+use Rattle.octets.proofs.Integer.from_octets.Statement.{statement}
+use Rattle.octets.proofs.Integer.from_octets.Tie as tie
 use native.Mathlib.Omega.{arith}
 use mathlib.Core.Path.{sym, ap, _∙_}
 use Rattle.octets.specs.Numbers.{integerOf}
-use Rattle.octets.proofs.Laws.{link, one-low, one-high}
+use Rattle.octets.proofs.Laws.{integer, one-low, one-high}
 
 enum-known-o : tie.Need-enum-known-o
 enum-known-o c = search needs
@@ -44,13 +44,13 @@ from-bits-requires-3 : tie.Need-from-bits-requires-3
 from-bits-requires-3 c κs = search needs
 
 returns : tie.Need-returns
-returns c = c .from-bits .ensures ∙ link (one-low _ (c .before .if1 .taken) ∙ ap integerOf (sym (c .before .before .before .o .given .1)))
+returns c = c .from-bits .ensures ∙ integer (one-low _ (c .before .if1 .taken) ∙ ap integerOf (sym (c .before .before .before .o .given .1)))
 
 returns-2 : tie.Need-returns-2
-returns-2 c = c .from-bits2 .ensures ∙ link (one-high _ (c .before .if1 .left) (omega arith) ∙ ap integerOf (sym (c .before .before .before .o .given .1)))
+returns-2 c = c .from-bits2 .ensures ∙ integer (one-high _ (c .before .if1 .left) (omega arith) ∙ ap integerOf (sym (c .before .before .before .o .given .1)))
 
 returns-3 : tie.Need-returns-3
-returns-3 c = c .from-bits3 .ensures ∙ link (ap integerOf (sym (c .before .before .o2 .given .1)))
+returns-3 c = c .from-bits3 .ensures ∙ integer (ap integerOf (sym (c .before .before .o2 .given .1)))
 
 pub from-octets-spec : {M : Type 1} → statement M
 from-octets-spec =
