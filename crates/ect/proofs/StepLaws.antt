@@ -9,8 +9,8 @@ use Rattle.octets.specs.Buffers.{frontWritten}
 use Rattle.board.specs.Soundness.{sound}
 use Rattle.board.specs.declared.Board.{Board}
 use Rattle.ect.specs.Contract.{Shows, Steps, StepsTested, answerNumber, answerCount}
-use Rattle.effects.specs.Code.Effects.{Carries, verdictOf, boardBy}
-use Rattle.effects.proofs.EffectLaws.{verdict-is, board-is, says}
+use Rattle.effects.specs.Code.Effects.{EffectOf, acceptanceOf, boardBy}
+use Rattle.effects.proofs.EffectLaws.{acceptance-is, board-is, says}
 use Rattle.ect.specs.Code.Answering.{answerTo}
 use Rattle.replies.specs.declared.Out.{Out}
 use Rattle.replies.specs.Code.Writing.{rendered, written}
@@ -19,12 +19,12 @@ use Rattle.ect.specs.declared.StepAnswer.{StepAnswer}
 use Rattle.ect.specs.declared.StepAnswer.the-variants.{Refused}
 use Rattle.ect.specs.declared.Stepped.{Stepped}
 use Rattle.events.specs.declared.Refusal.{Refusal}
-use Rattle.rules.specs.Checks.{Refuse, Decision, OpenLeg, SetState, SetAuxiliary, ReleaseLeg, ServeCall, EndAlerting, returnedBy}
+use Rattle.rules.specs.Checks.{Refuse, Accept, Decision, returnedBy}
 use Rattle.events.specs.Refusals.{refusalNumber}
 use Rattle.rules.specs.Replies.{DropOrder, ReplyRecord, octets, NamedFirst}
 use Rattle.rules.specs.Step.{replies, step, stepTested, refused, Outcome, done, decision}
 use Rattle.events.specs.declared.Refusal.the-variants as refusal
-use Rattle.effects.specs.declared.Verdict.{Verdict}
+use Rattle.effects.specs.declared.Acceptance.{Acceptance}
 use Rattle.effects.specs.declared.Effect.{Effect}
 
 -- ---- the outcome
@@ -53,11 +53,11 @@ shows-is {before = before} {r = r} {after = after} h k = subst⁻¹ (λ (x : Out
 copied : {o : Out} (rs : List ReplyRecord) {b : List ℕ} (before : List ℕ) → o ≡ rendered rs → b ≡ frontWritten (written o) before → b ≡ frontWritten (octets rs) before
 copied rs before s e = e ∙ ap (λ (l : List ℕ). frontWritten l before) (ap written s ∙ rendered-written rs)
 
-written-len : {e : Effect} {b : Board} {d : Decision} → Carries e b d → e .out .len ≡ length (octets (replies NamedFirst (b .rows) d))
+written-len : {e : Effect} {b : Board} {d : Decision} → EffectOf e b d → e .out .len ≡ length (octets (replies NamedFirst (b .rows) d))
 written-len {b = b} {d = d} k = ap (λ (o : Out). o .len) (says k) ∙ rendered-len (replies NamedFirst (b .rows) d)
 
 -- the replies fit their array, whatever the board
-pub fits : {e : Effect} {b : Board} {d : Decision} → length (e .out .octets) ≡ 128 → Carries e b d → e .out .len ≤ 128
+pub fits : {e : Effect} {b : Board} {d : Decision} → length (e .out .octets) ≡ 128 → EffectOf e b d → e .out .len ≤ 128
 fits {b = b} {d = d} l k = rendered-fits (replies NamedFirst (b .rows) d) (says k) l
 
 -- the test handed in is the board's own
@@ -73,30 +73,20 @@ module _ (b : Board) (os before : List ℕ) where
     pub not-sound : {tested : Bool} → tested ≡ false → StepsTested tested b os before (stepped (Refused refusal.UnsoundBoard) b) before
     not-sound t = rw t (NamedFirst, shows-is (enough false NamedFirst b os (length before) h) (shows-refused refusal.UnsoundBoard b before))
 
-    answer-by : (d : Decision) (n : ℕ) → answerNumber (answerTo (verdictOf d) n) ≡ returnedBy d
+    answer-by : (d : Decision) (n : ℕ) → answerNumber (answerTo (acceptanceOf d) n) ≡ returnedBy d
     answer-by (Refuse r) n = refl
-    answer-by (OpenLeg l c m) n = refl
-    answer-by (SetState r t) n = refl
-    answer-by (SetAuxiliary r a) n = refl
-    answer-by (ReleaseLeg x) n = refl
-    answer-by (ServeCall p t) n = refl
-    answer-by (EndAlerting l p) n = refl
+    answer-by (Accept c w) n = refl
 
-    count-by : (d : Decision) (n : ℕ) → n ≡ length (octets (replies NamedFirst (b .rows) d)) → answerCount (answerTo (verdictOf d) n) ≡ length (octets (replies NamedFirst (b .rows) d))
+    count-by : (d : Decision) (n : ℕ) → n ≡ length (octets (replies NamedFirst (b .rows) d)) → answerCount (answerTo (acceptanceOf d) n) ≡ length (octets (replies NamedFirst (b .rows) d))
     unfolding octets replies
     count-by (Refuse r) n h = refl
-    count-by (OpenLeg l c m) n h = h
-    count-by (SetState r t) n h = h
-    count-by (SetAuxiliary r a) n h = h
-    count-by (ReleaseLeg x) n h = h
-    count-by (ServeCall p t) n h = h
-    count-by (EndAlerting l p) n h = h
+    count-by (Accept c w) n h = h
 
-    pub step-done : {tested : Bool} → tested ≡ true → {e : Effect} → Carries e b (decision b os) → {n : ℕ} {a : StepAnswer} {b′ : Board} {after : List ℕ} →
-        n ≡ e .out .len → after ≡ frontWritten (written (e .out)) before → a ≡ answerTo (e .verdict) n → b′ ≡ boardBy (e .deed) (e .row) b → StepsTested tested b os before (stepped a b′) after
+    pub step-done : {tested : Bool} → tested ≡ true → {e : Effect} → EffectOf e b (decision b os) → {n : ℕ} {a : StepAnswer} {b′ : Board} {after : List ℕ} →
+        n ≡ e .out .len → after ≡ frontWritten (written (e .out)) before → a ≡ answerTo (e .acceptance) n → b′ ≡ boardBy (e .change) (e .row) b → StepsTested tested b os before (stepped a b′) after
     step-done t k {n} m q v w =
         let d = decision b os in
-        let u = v ∙ ap (λ (x : Verdict). answerTo x n) (verdict-is k) in
+        let u = v ∙ ap (λ (x : Acceptance). answerTo x n) (acceptance-is k) in
         rw t (
           NamedFirst,
           shows-is (enough true NamedFirst b os (length before) h)

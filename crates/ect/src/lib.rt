@@ -1,6 +1,6 @@
 // The network side of Explicit Call Transfer for one access: one call for every event.
 use board::Board;
-use effects::Verdict;
+use effects::Acceptance;
 use effects::done;
 use effects::effect_of;
 use events::Refusal;
@@ -26,12 +26,12 @@ pub struct Stepped {
 }
 
 // A refused event has written no octets.
-fn answer_to(verdict: Verdict, n: usize) -> StepAnswer
-    ensures { λ r. ⌜ r ≡ answerTo verdict n ⌝ }
+fn answer_to(acceptance: Acceptance, n: usize) -> StepAnswer
+    ensures { λ r. ⌜ r ≡ answerTo acceptance n ⌝ }
 {
-    match verdict {
-        Verdict::Accepted => StepAnswer::Accepted(n),
-        Verdict::Refused(refusal) => StepAnswer::Refused(refusal),
+    match acceptance {
+        Acceptance::Accepted => StepAnswer::Accepted(n),
+        Acceptance::Refused(refusal) => StepAnswer::Refused(refusal),
     }
 }
 
@@ -79,9 +79,9 @@ pub fn step_tested(board: Board, is_sound: bool, event: &[u8], reply: &mut [u8])
     let effect = effect_of(board, event);
     let out = effect.out;
     let n = copy_out(reply, out);
-    let verdict = effect.verdict;
+    let acceptance = effect.acceptance;
     Stepped {
-        answer: answer_to(verdict, n),
+        answer: answer_to(acceptance, n),
         board: done(board, effect),
     }
 }

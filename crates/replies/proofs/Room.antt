@@ -9,7 +9,7 @@ use Rattle.octets.specs.declared.IntegerOctets.{IntegerOctets}
 use Rattle.component.specs.declared.Answer.{Answer}
 use Rattle.component.specs.declared.Answer.the-variants as answer
 use Rattle.rules.specs.Replies.{Number, Reply, Tell, Drop, Gone, NamedFirst, octets}
-use Rattle.rules.proofs.Room.{reply-length, one-length, tells-length, transfer-length}
+use Rattle.rules.proofs.Lengths.{reply-length, one-length, tells-length, transfer-length}
 use Rattle.replies.specs.declared.FarParty.{FarParty}
 use Rattle.replies.specs.Code.Writing.{numberTold, transferTells, transferRecords}
 

@@ -3,6 +3,7 @@ use Prim.Native.Nat.{ℕ}
 use mathlib.Core.Path.{_∙_, _≡_, refl, ap, ap₂, subst, subst⁻¹}
 use mathlib.Core.Bool.{true, Bool, cond, false}
 use mathlib.Core.List.{_∷_, List, []}
+use mathlib.Core.Option.{Option}
 use lib.Dec.{eqb, leb, ltb}
 use lib.ListN.{length, getD, drop}
 use Rattle.board.proofs.SoundEntries.{Sound, of-sound, sound-perm, sound-of}
@@ -17,7 +18,7 @@ use Rattle.rules.proofs.Kept.{kept}
 use Rattle.rules.proofs.Order.{decide-perm}
 use Rattle.rules.proofs.Rows.{full-is, candidate-same, after-perm, rows-length, rows-right, Fine, fine, view}
 use Rattle.rules.specs.Book.{Book, bookRules, bookAfter, candidateMoves, entriesAfter, bookDecision, freshBook, emptyBook, bookStep}
-use Rattle.rules.specs.Checks.{decide, Decision, returnedBy, Refuse}
+use Rattle.rules.specs.Checks.{BoardChange, decide, Decision, returnedBy, changeOf, Refuse}
 use Rattle.events.specs.Refusals.{refusalNumber}
 use Rattle.events.specs.EventRecords.{request, ranged, Request, inRange, Malformed, sized, openBody, progressBody, field, holdBody, Release, facilityBody, Answer}
 use Rattle.rules.specs.History.{returns, Event, stepped, boardAt, bookAt, bookReturns}
@@ -97,22 +98,22 @@ after-together : {b : Board} {k : Book} → Together b k → (os : List ℕ) →
 unfolding boardAfter bookAfter decision
 after-together {b} {k} t os = record {
   options = t .options;
-  candidate = candidate-same d (b .candidate) ∙ ap (candidateMoves d) (t .candidate);
-  order = p-trans seen (after-perm d (t .order));
-  size = rows-length d (b .rows) ∙ t .size;
-  rows-are = rows-right (full (b .rows)) d (b .rows) ok (t .rows-are);
+  candidate = candidate-same c (b .candidate) ∙ ap (candidateMoves c) (t .candidate);
+  order = p-trans seen (after-perm c (t .order));
+  size = rows-length c (b .rows) ∙ t .size;
+  rows-are = rows-right (full (b .rows)) c (b .rows) ok (t .rows-are);
   entries-are = sound-perm (p-sym seen) (kept (b .options) (b .candidate .0) (full (b .rows)) (taken (b .rows)) (request os) (t .entries-are) (request-in os));
   options-are = t .options-are;
 }
   where
-    d : Decision
-    d = decide (b .options) (b .candidate .0) (full (b .rows)) (taken (b .rows)) (request os)
+    c : Option BoardChange
+    c = changeOf (decide (b .options) (b .candidate .0) (full (b .rows)) (taken (b .rows)) (request os))
 
-    ok : Fine (full (b .rows)) d
+    ok : Fine (full (b .rows)) c
     ok = fine (b .options) (b .candidate .0) (full (b .rows)) (taken (b .rows)) (request os) (request-in os)
 
-    seen : Perm (taken (rowsAfter d (b .rows))) (entriesAfter d (taken (b .rows)))
-    seen = view d (b .rows) ok
+    seen : Perm (taken (rowsAfter c (b .rows))) (entriesAfter c (taken (b .rows)))
+    seen = view c (b .rows) ok
 
 -- what the next event returns, and that board and book stay together
 pub record Next (b : Board) (k : Book) (o : Outcome) (d : Decision) : Type 0 where
@@ -134,11 +135,11 @@ next {b} {k} t e =
     go true = record { same = refl; together = refused-together t }
     go false = record { same = refl; together = after-together t (e .octets) }
 
--- ---- a fresh board and a freshBook book
+-- ---- an empty board and an empty book, and those that begin fresh
 
-fresh-together : (o : Options) → validOptions o ≡ true → Together (emptyBoard o) (emptyBook o)
+pub empty-together : (o : Options) → validOptions o ≡ true → Together (emptyBoard o) (emptyBook o)
 unfolding validRow soundEntries
-fresh-together o h = record {
+empty-together o h = record {
   options = refl;
   candidate = refl;
   order = p-nil;
@@ -153,8 +154,8 @@ unfolding fresh freshBook
 begun s a = go (validOptions (options s a)) refl
   where
     go : (x : Bool) → validOptions (options s a) ≡ x → Together ((cond {A = Made} x (record { returned = 0; board = emptyBoard (options s a) }) unmade) .board) (cond {A = Book} x (emptyBook (options s a)) (emptyBook (options 0 0)))
-    go true h = fresh-together (options s a) h
-    go false h = fresh-together (options 0 0) refl
+    go true h = empty-together (options s a) h
+    go false h = empty-together (options 0 0) refl
 
 -- ---- whole lists
 

@@ -24,13 +24,15 @@ use Rattle.component.specs.declared.Operation.{Operation}
 use Rattle.component.specs.declared.Operation.the-variants.{EctExecute, ExplicitEctExecute, EctLinkIdRequest}
 use Rattle.component.specs.declared.Reading.{Reading}
 use Rattle.component.specs.declared.Reading.the-variants.{Ignored, Rejected, Invoked}
-use Rattle.rules.specs.Checks.{decide, Decision, Refuse, OpenLeg, opened, named, mayProgress, SetState, mayHold, SetAuxiliary, ReleaseLeg, ServeCall, EndAlerting, decideOpen, decideProgress, decideHold, entryAt, decideRelease, decideFacility, isNamed, decideAlerting, decideAnswer}
+use Rattle.rules.specs.Checks.{decide, Decision, Refuse, Accept, accept, opening, named, mayProgress, mayHold, releaseOf, serviceDecision, decideOpen, decideProgress, decideHold, entryAt, decideRelease, decideFacility, isNamed, decideAlerting, decideAnswer}
+use Rattle.rules.specs.History.{opensLeg, endsLeg}
+use Rattle.rules.specs.Replies.{Written, nothing, replied, releaseReplies, answerTold}
+use Rattle.rules.proofs.Lengths.{Short, nothing-short, reply-short}
+use Rattle.board.specs.declared.Change.the-variants as change
 use Rattle.events.specs.Refusals.{refusalNumber}
 use Rattle.events.specs.EventRecords.{Answer, Request, Open, Progress, Hold, Release, Facility, Malformed}
 use Rattle.rules.specs.Serving.{Service, Silent, Respond, assign, live, AssignLinkId, partnerFor, Transfer, execute, partyLinkId, executeExplicitly, error, newLinkId, linkIdRequest, perform, serve}
-use Rattle.rules.specs.Situations.{call}
 use Rattle.events.specs.declared.Refusal.{Refusal}
-use Rattle.events.specs.declared.Refusal.the-variants.{BufferTooSmall, UnsoundBoard, WrongLength, UnknownKind, FieldOutOfRange, LegOnBoard, ReferenceInUse, NoEmptyRow, NoSuchCall, NoSuchLeg, NotPermitted}
 use Rattle.octets.proofs.Lists.{keep-mem, only-mem, find-mem}
 use Rattle.octets.specs.Lists.{only, keep, find, any}
 use Rattle.octets.specs.declared.IntegerOctets.{IntegerOctets}
@@ -104,17 +106,23 @@ refusal-not-0 refusal.NotPermitted = refl
 module _ (opt : Options) (z : ℤ) (w : Bool) (es : List Entry) where
   pub data Decided : Request → Decision → Type 0 where
     refuses : {q : Request} (c : Refusal) → Decided q (Refuse c)
+    -- an event that opens and ends no leg and changes nothing, whatever it writes
+    changes-nothing : {q : Request} {w : Written} → ((l : ℕ) → opensLeg l q ≡ false) → ((l : ℕ) → endsLeg es l q ≡ false) → Short w → Decided q (Accept none w)
     opens-leg : {r l : ℕ} {d : Direction} {n : PartyNumber} → any (hasLeg l) es ≡ false → any (hasReference r) es ≡ false → w ≡ false →
-        Decided (Open r l d n) (OpenLeg l (opened r d) n)
-    sets-state : {r : ℕ} {s : CallState} {p : Party} → named r es ≡ some p → mayProgress (p .call .state) s ≡ true → Decided (Progress r s) (SetState r s)
+        Decided (Open r l d n) (opening r l d n)
+    sets-state : {r : ℕ} {s : CallState} {p : Party} → named r es ≡ some p → mayProgress (p .call .state) s ≡ true →
+        Decided (Progress r s) (accept (change.SetState (record { 0 = r }) s) nothing)
     sets-auxiliary : {r : ℕ} {a : AuxiliaryState} {p : Party} → named r es ≡ some p → (holdable (p .call .state) && mayHold (p .call .auxiliary) a) ≡ true →
-        Decided (Hold r a) (SetAuxiliary r a)
-    releases : {l : ℕ} {e : Entry} → List·Memᴰ e es → hasLeg l e ≡ true → Decided (Release l) (ReleaseLeg e)
-    serves : {r : ℕ} {c : List ℕ} {p : Party} {v : Service} → List·Memᴰ p (calls es) → ComesTo opt z (calls es) p v → Decided (Facility r c) (ServeCall p v)
-    ends-alerting : {l p : ℕ} → Decided (Answer l) (EndAlerting l p)
+        Decided (Hold r a) (accept (change.SetAuxiliary (record { 0 = r }) a) nothing)
+    releases : {l : ℕ} {e : Entry} → List·Memᴰ e es → hasLeg l e ≡ true → Decided (Release l) (accept (releaseOf (e .leg) (e .connection)) (releaseReplies (e .connection)))
+    assigns-link-id : {r : ℕ} {c : List ℕ} {p : Party} {y : ℤ} (i : IntegerOctets) → List·Memᴰ p (calls es) → freeLinkId 16 z (live (calls es)) ≡ some y →
+        leb 16 (length (live (calls es))) ≡ false → Decided (Facility r c) (serviceDecision opt p (AssignLinkId (record { 0 = y }) i))
+    transfers : {r : ℕ} {c : List ℕ} {p o : Party} (i : IntegerOctets) → List·Memᴰ p (calls es) → List·Memᴰ o (calls es) → partnerFor opt p o ≡ true →
+        Decided (Facility r c) (serviceDecision opt p (Transfer p o i))
+    ends-alerting : {l p : ℕ} → Decided (Answer l) (accept (change.EndAlerting l) (answerTold opt l p))
 
   open-is : (r l : ℕ) (d : Direction) (n : PartyNumber) (x y v : Bool) → any (hasLeg l) es ≡ x → any (hasReference r) es ≡ y → w ≡ v →
-      Decided (Open r l d n) (decideOpen x y v (OpenLeg l (opened r d) n))
+      Decided (Open r l d n) (decideOpen x y v (opening r l d n))
   open-is r l d n true y v e f g = refuses _
   open-is r l d n false true v e f g = refuses _
   open-is r l d n false false true e f g = refuses _
@@ -124,7 +132,7 @@ module _ (opt : Options) (z : ℤ) (w : Bool) (es : List Entry) where
   progress-is r s none e = refuses _
   progress-is r s (some p) e = go (mayProgress (p .call .state) s) refl
     where
-      go : (b : Bool) → mayProgress (p .call .state) s ≡ b → Decided (Progress r s) (cond b (SetState r s) (Refuse refusal.NotPermitted))
+      go : (b : Bool) → mayProgress (p .call .state) s ≡ b → Decided (Progress r s) (cond b (accept (change.SetState (record { 0 = r }) s) nothing) (Refuse refusal.NotPermitted))
       go true h = sets-state e h
       go false h = refuses _
 
@@ -132,7 +140,8 @@ module _ (opt : Options) (z : ℤ) (w : Bool) (es : List Entry) where
   hold-is r a none e = refuses _
   hold-is r a (some p) e = go (holdable (p .call .state) && mayHold (p .call .auxiliary) a) refl
     where
-      go : (b : Bool) → (holdable (p .call .state) && mayHold (p .call .auxiliary) a) ≡ b → Decided (Hold r a) (cond b (SetAuxiliary r a) (Refuse refusal.NotPermitted))
+      go : (b : Bool) → (holdable (p .call .state) && mayHold (p .call .auxiliary) a) ≡ b →
+          Decided (Hold r a) (cond b (accept (change.SetAuxiliary (record { 0 = r }) a) nothing) (Refuse refusal.NotPermitted))
       go true h = sets-auxiliary e h
       go false h = refuses _
 
@@ -140,16 +149,22 @@ module _ (opt : Options) (z : ℤ) (w : Bool) (es : List Entry) where
   release-is l none e = refuses _
   release-is l (some x) e = let m = find-mem (hasLeg l) es e in releases (m .0) (m .1)
 
+  service-is : (r : ℕ) (c : List ℕ) (p : Party) {v : Service} → List·Memᴰ p (calls es) → ComesTo opt z (calls es) p v → Decided (Facility r c) (serviceDecision opt p v)
+  service-is r c p m silent = changes-nothing (λ l. refl) (λ l. refl) nothing-short
+  service-is r c p m (respond a) = changes-nothing (λ l. refl) (λ l. refl) (reply-short (p .call .reference .0) a)
+  service-is r c p m (assigned i e h) = assigns-link-id i m e h
+  service-is r c p m (transferred i n h) = transfers i m n h
+
   facility-is : (r : ℕ) (c : List ℕ) (o : Option Party) → named r es ≡ o → Decided (Facility r c) (decideFacility opt z es c o)
   facility-is r c none e = refuses _
-  facility-is r c (some p) e = serves (find-mem (isNamed r) (calls es) e .0) (served-is opt z (calls es) p (reading c))
+  facility-is r c (some p) e = service-is r c p (find-mem (isNamed r) (calls es) e .0) (served-is opt z (calls es) p (reading c))
 
-  alerting-is : (l : ℕ) (t : Connection) → Decided (Answer l) (decideAlerting l t)
+  alerting-is : (l : ℕ) (t : Connection) → Decided (Answer l) (decideAlerting opt l t)
   alerting-is l (WithUser c) = refuses _
   alerting-is l (WithPartner p true) = ends-alerting
   alerting-is l (WithPartner p false) = refuses _
 
-  answer-is : (l : ℕ) (o : Option Entry) → Decided (Answer l) (decideAnswer l o)
+  answer-is : (l : ℕ) (o : Option Entry) → Decided (Answer l) (decideAnswer opt l o)
   answer-is l none = refuses _
   answer-is l (some e) = alerting-is l (e .connection)
 

@@ -4,22 +4,27 @@ use mathlib.Core.Path.{_≡_, refl}
 use mathlib.Core.Bool.{Bool, false, true, cond}
 use mathlib.Core.List.{_++_, _∷_, List, []}
 use lib.Dec.{eqb, ltb}
-use lib.ListN.{getD}
+use lib.IntN.{ℤ}
+use lib.ListN.{getD, replicate, length}
+use Rattle.octets.specs.declared.IntegerOctets.{IntegerOctets}
 use Rattle.board.specs.declared.Connection.{Connection}
 use Rattle.board.specs.declared.Connection.the-variants.{WithUser, WithPartner}
+use Rattle.board.specs.declared.Entry.{Entry}
+use Rattle.board.specs.declared.Options.{Options}
 use Rattle.board.specs.declared.Party.{Party}
+use Rattle.board.specs.Changes.{full}
+use Rattle.board.specs.Entries.{taken}
+use Rattle.events.specs.EventRecords.{Request, request}
 use Rattle.board.specs.Soundness.{sound}
 use Rattle.board.specs.States.{delivered}
 use Rattle.board.specs.declared.Board.{Board}
 use Rattle.component.specs.Answers.{answerOctets, filled}
-use Rattle.rules.proofs.Rows.{fine}
-use Rattle.rules.specs.Checks.{ServeCall, Decision, Refuse, OpenLeg, SetState, SetAuxiliary, ReleaseLeg, EndAlerting, returnedBy}
+use Rattle.rules.specs.Checks.{Decision, Refuse, Accept, returnedBy}
 use Rattle.events.specs.Refusals.{refusalNumber}
 use Rattle.rules.specs.History.{Event, stepped}
-use Rattle.rules.specs.Replies.{told, Number, errorRecord, Drop, DropOrder, tells, numberAt, drops, NamedFirst, OtherFirst, octets, errorTag, Reply, ReplyRecord, errorOctets, Tell, Gone}
-use Rattle.rules.specs.Serving.{Service, Silent, Respond, AssignLinkId, Transfer}
-use Rattle.rules.specs.Step.{serviceReplies, boardAfter, rowsAfter, candidateAfter, releaseReplies, done, replies, refused, step, stepTested, Outcome, decision}
-use Rattle.events.specs.declared.Refusal.the-variants.{BufferTooSmall, UnsoundBoard}
+use Rattle.rules.specs.Replies.{told, Number, errorRecord, Drop, DropOrder, tells, numberAt, drops, NamedFirst, OtherFirst, octets, errorTag, Reply, ReplyRecord, errorOctets, Tell, Gone, transferReplies, releaseReplies}
+use Rattle.rules.proofs.Decided.{Decided, refuses, changes-nothing, opens-leg, sets-state, sets-auxiliary, releases, assigns-link-id, transfers, ends-alerting, decided}
+use Rattle.rules.specs.Step.{boardAfter, rowsAfter, candidateAfter, done, replies, refused, step, stepTested, Outcome, decision}
 use Rattle.octets.proofs.Lists.{true-not-false, neither, or-left}
 use Rattle.octets.specs.Lists.{any}
 use Rattle.events.specs.declared.Refusal.the-variants as refusal
@@ -32,45 +37,45 @@ told-well l true false n = refl
 told-well l false true n = refl
 told-well l false false n = refl
 
-well-served : (order : DropOrder) (b : Board) (p : Party) (v : Service) → any errorRecord (serviceReplies order (b .rows) (p .call .reference .0) v) ≡ true → boardAfter (ServeCall p v) b ≡ b
-unfolding boardAfter rowsAfter candidateAfter answerOctets
-well-served order b p Silent h = refl
-well-served order b p (Respond c) h = refl
-well-served order b p (AssignLinkId z i) h = absurd (true-not-false h refl)
-well-served order b p (Transfer x y i) h = absurd (true-not-false h (fine order))
+transfer-well : (o : Options) (r : ℕ) (i : IntegerOctets) (p q : Party) (order : DropOrder) (numbers : ℕ → Number) → any errorRecord (transferReplies o r i p q order numbers) ≡ false
+unfolding answerOctets
+transfer-well o r i p q order numbers = fine order
   where
-    last : any errorRecord (tells (b .rows) x y) ≡ false
+    last : any errorRecord (tells o numbers p q) ≡ false
     last =
-        neither (told-well (x .leg) (delivered (x .call)) (delivered (y .call)) (numberAt (b .rows) (y .leg)))
-        (neither (told-well (y .leg) (delivered (y .call)) (delivered (x .call)) (numberAt (b .rows) (x .leg))) refl)
+        neither (told-well (p .leg) (delivered (p .call)) (delivered (q .call)) (numbers (q .leg)))
+        (neither (told-well (q .leg) (delivered (q .call)) (delivered (p .call)) (numbers (p .leg))) refl)
 
-    fine : (o : DropOrder) → any errorRecord (drops o (x .call .reference .0) (y .call .reference .0) ++ tells (b .rows) x y) ≡ false
+    fine : (order : DropOrder) → any errorRecord (drops order (p .call .reference .0) (q .call .reference .0) ++ tells o numbers p q) ≡ false
     fine NamedFirst = last
     fine OtherFirst = last
 
-well-released : (t : Connection) → any errorRecord (releaseReplies t) ≡ true → ⊥
-well-released (WithUser c) h = true-not-false h refl
-well-released (WithPartner p a) h = true-not-false h refl
+release-well : (t : Connection) (order : DropOrder) (numbers : ℕ → Number) → any errorRecord (releaseReplies t order numbers) ≡ false
+release-well (WithUser c) order numbers = refl
+release-well (WithPartner p a) order numbers = refl
 
-well-done : (order : DropOrder) (b : Board) (d : Decision) → any errorRecord (replies order (b .rows) d) ≡ true → boardAfter d b ≡ b
-unfolding replies boardAfter rowsAfter candidateAfter
-well-done order b (Refuse c) h = refl
-well-done order b (OpenLeg l c n) h = absurd (true-not-false h refl)
-well-done order b (SetState r s) h = absurd (true-not-false h refl)
-well-done order b (SetAuxiliary r a) h = absurd (true-not-false h refl)
-well-done order b (ReleaseLeg e) h = absurd (well-released (e .connection) h)
-well-done order b (ServeCall p v) h = well-served order b p v h
-well-done order b (EndAlerting l p) h = absurd (true-not-false h refl)
+-- what is decided and changes the board writes no error
+well-by : (order : DropOrder) (b : Board) {opt : Options} {z : ℤ} {w : Bool} {es : List Entry} {q : Request} {d : Decision} → Decided opt z w es q d →
+    any errorRecord (replies order (b .rows) d) ≡ true → boardAfter d b ≡ b
+unfolding replies boardAfter rowsAfter candidateAfter answerOctets
+well-by order b (refuses c) h = refl
+well-by order b (changes-nothing f g k) h = refl
+well-by order b (opens-leg e f g) h = absurd (true-not-false h refl)
+well-by order b (sets-state e k) h = absurd (true-not-false h refl)
+well-by order b (sets-auxiliary e k) h = absurd (true-not-false h refl)
+well-by order b (releases {e = e} m k) h = absurd (true-not-false h (release-well (e .connection) order (numberAt (b .rows))))
+well-by order b (assigns-link-id i m e k) h = absurd (true-not-false h refl)
+well-by order b {opt} (transfers {p = p} {o = q} i m n k) h = absurd (true-not-false h (transfer-well opt (p .call .reference .0) i p q order (numberAt (b .rows))))
+well-by order b ends-alerting h = absurd (true-not-false h refl)
+
+well-done : (order : DropOrder) (b : Board) (os : List ℕ) → any errorRecord (replies order (b .rows) (decision b os)) ≡ true → boardAfter (decision b os) b ≡ b
+unfolding decision
+well-done order b os h = well-by order b (decided (b .options) (b .candidate .0) (full (b .rows)) (taken (b .rows)) (request os)) h
 
 untouched-done : (order : DropOrder) (b : Board) (d : Decision) → eqb (returnedBy d) 0 ≡ false → done order b d ≡ refused (returnedBy d) b
 unfolding boardAfter rowsAfter candidateAfter replies
 untouched-done order b (Refuse c) h = refl
-untouched-done order b (OpenLeg l c n) h = absurd (true-not-false refl h)
-untouched-done order b (SetState r s) h = absurd (true-not-false refl h)
-untouched-done order b (SetAuxiliary r a) h = absurd (true-not-false refl h)
-untouched-done order b (ReleaseLeg e) h = absurd (true-not-false refl h)
-untouched-done order b (ServeCall p v) h = absurd (true-not-false refl h)
-untouched-done order b (EndAlerting l p) h = absurd (true-not-false refl h)
+untouched-done order b (Accept c w) h = absurd (true-not-false refl h)
 
 pub untouched-step : (b : Board) (e : Event) → eqb (stepped b e .returned) 0 ≡ false → stepped b e ≡ refused (stepped b e .returned) b
 unfolding step stepTested
@@ -89,7 +94,7 @@ unharmed b e = go (ltb (e .room) 128) (sound b)
     go : (x y : Bool) → any errorRecord ((cond {A = Outcome} x (refused (refusalNumber refusal.BufferTooSmall) b) (cond y (done (e .order) b (decision b (e .octets))) (refused (refusalNumber refusal.UnsoundBoard) b))) .replies) ≡ true →
         (cond {A = Outcome} x (refused (refusalNumber refusal.BufferTooSmall) b) (cond y (done (e .order) b (decision b (e .octets))) (refused (refusalNumber refusal.UnsoundBoard) b))) .board ≡ b
     go true y h = refl
-    go false true h = well-done (e .order) b (decision b (e .octets)) h
+    go false true h = well-done (e .order) b (e .octets) h
     go false false h = refl
 
 -- ---- an error by the octets is an error by the records

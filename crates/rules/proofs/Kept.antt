@@ -2,7 +2,7 @@
 use Prim.Native.Nat.{_+_, _<_, _≤_, ℕ, zero, suc}
 use native.Mathlib.Nat.{le-trans}
 use native.Mathlib.Omega.{arith}
-use mathlib.Core.Path.{_∙_, ap, _≡_, subst, refl, sym, ap₂}
+use mathlib.Core.Path.{_∙_, ap, _≡_, subst, subst⁻¹, refl, sym, ap₂}
 use mathlib.Core.Logic.{_⊎_, inl, inr}
 use mathlib.Core.Bool.{_&&_, _||_, Bool, false, not, true, cond}
 use mathlib.Core.List.{_∷_, List, List·Memᴰ, map, []}
@@ -12,7 +12,6 @@ use lib.ListN.{length}
 use lib.IntN.{ℤ}
 use Rattle.board.proofs.SoundEntries.{Sound, isNumber-same, refs-one, one-leg}
 use Rattle.board.specs.Changes.{withState, withAuxiliary, withLinkId}
-use Rattle.board.specs.Counts.{legs}
 use Rattle.board.specs.declared.Connection.{Connection}
 use Rattle.board.specs.declared.Connection.the-variants.{WithUser, WithPartner}
 use Rattle.board.specs.declared.Entry.{Entry}
@@ -28,23 +27,20 @@ use Rattle.board.specs.declared.CallState.the-variants.{OutgoingCallProceeding,
 use Rattle.board.specs.declared.Direction.{Direction}
 use Rattle.board.specs.declared.Direction.the-variants.{Outgoing, Incoming}
 use Rattle.board.specs.declared.Options.{Options}
-use Rattle.rules.proofs.Decided.{decided, ComesTo, silent, respond, assigned, transferred, Decided, refuses, opens-leg, sets-state, sets-auxiliary, releases, serves, ends-alerting}
+use Rattle.rules.proofs.Decided.{decided, Decided, refuses, changes-nothing, opens-leg, sets-state, sets-auxiliary, releases, assigns-link-id, transfers, ends-alerting}
 use Rattle.rules.proofs.Order.{calls-one}
-use Rattle.rules.specs.Book.{mapConnection, changeCall, stays, endAlerting, joinLegs, serviceEntries, entriesAfter}
-use Rattle.rules.specs.Checks.{opened, named, isNamed, mayProgress, decide, Decision}
+use Rattle.rules.specs.Book.{mapConnection, changeCall, endAlerting, joinLegs, entriesAfter}
+use Rattle.rules.specs.Checks.{opened, named, isNamed, mayProgress, decide, Decision, Apply, releaseOf, changeOf}
 use Rattle.events.specs.EventRecords.{Request, inRange}
 use Rattle.rules.specs.Pairing.{verdict, pairs, heldWithIdle}
-use Rattle.rules.specs.Serving.{live, sameCall, partnerFor, Transfer, Service}
+use Rattle.rules.specs.Serving.{live, sameCall, partnerFor}
 use Rattle.rules.specs.LinkIdGiven.{upward, FirstNotLive}
-use Rattle.rules.specs.Situations.{call}
 use Rattle.octets.proofs.Lists.{pick-mem, mem-pick, any-has, right, all-at, true-not-false, eqb-eq, left, is-not, both, any-of, eqb-self, none-by, or-right, all-by, any-map, any-ext, distinct-map, all-map, all-ext}
 use Rattle.octets.proofs.Lists.{map-mem, length-keep-map, small-mem, find-mem, mem-keep, test, or-false, none-of, or-left, is-true, keep-map-le, from-true, eqb-of, neither, keep-mem, distinct-keep, keep-keep-le, mem-map, keep-none, eqb-sym}
 use Rattle.octets.proofs.SameInteger.{sameInteger-eq, sameInteger-self}
 use Rattle.octets.specs.Lists.{any, distinct, keep, consOpt, consIf}
 use Rattle.octets.specs.Numbers.{sameInteger, nextLinkId}
-use Rattle.octets.specs.declared.IntegerOctets.{IntegerOctets}
 use Rattle.octets.specs.declared.LinkId.{LinkId}
-use Rattle.events.specs.declared.Refusal.the-variants as refusal
 
 -- ---- a leg and its connection
 
@@ -356,9 +352,18 @@ module _ (r : ℕ) (z : ℤ) where
 
 -- ---- Release
 
+-- the entry f is neither the released one nor its partner's
+abbrev pub remains : Entry → Entry → Bool
+remains e f = not (eqb (f .leg) (e .leg) || isPartner (f .leg) (e .connection))
+
+pub released : (n : ℕ) (t : Connection) (es : List Entry) → entriesAfter (some (Apply (releaseOf n t))) es ≡ keep (remains (entry n t)) es
+unfolding entriesAfter
+released n (WithUser c) es = refl
+released n (WithPartner p a) es = refl
+
 module _ (es : List Entry) (s : Sound es) (e₀ : Entry) (here : List·Memᴰ e₀ es) where
   -- a leg whose partner is struck is struck itself
-  stays-with : (n p : ℕ) (a b : Bool) → List·Memᴰ (entry n (WithPartner p a)) es → List·Memᴰ (entry p (WithPartner n b)) es → stays e₀ (entry n (WithPartner p a)) ≡ true → stays e₀ (entry p (WithPartner n b)) ≡ true
+  stays-with : (n p : ℕ) (a b : Bool) → List·Memᴰ (entry n (WithPartner p a)) es → List·Memᴰ (entry p (WithPartner n b)) es → remains e₀ (entry n (WithPartner p a)) ≡ true → remains e₀ (entry p (WithPartner n b)) ≡ true
   stays-with n p a b m w h = go (test (eqb p (e₀ .leg))) (test (isPartner p (e₀ .connection)))
     where
       out : (eqb n (e₀ .leg) ≡ false) × (isPartner n (e₀ .connection) ≡ false)
@@ -382,27 +387,27 @@ module _ (es : List Entry) (s : Sound es) (e₀ : Entry) (here : List·Memᴰ e�
               let nk : n ≡ k = cc in
               true-not-false (eqb-of n k nk) u
 
-      go : (eqb p (e₀ .leg) ≡ true) ⊎ (eqb p (e₀ .leg) ≡ false) → (isPartner p (e₀ .connection) ≡ true) ⊎ (isPartner p (e₀ .connection) ≡ false) → stays e₀ (entry p (WithPartner n b)) ≡ true
+      go : (eqb p (e₀ .leg) ≡ true) ⊎ (eqb p (e₀ .leg) ≡ false) → (isPartner p (e₀ .connection) ≡ true) ⊎ (isPartner p (e₀ .connection) ≡ false) → remains e₀ (entry p (WithPartner n b)) ≡ true
       go (inl t) y = absurd (own t)
       go (inr t) (inl u) = absurd (other (e₀ .leg) (e₀ .connection) here u (out .0))
       go (inr t) (inr u) = ap not (neither t u)
 
-  strikes-sound : Sound (keep (stays e₀) es)
+  strikes-sound : Sound (keep (remains e₀) es)
   strikes-sound = record {
-    rights = all-by validEntry (keep (stays e₀) es) (λ x m. all-at validEntry (keep-mem (stays e₀) es m .0) (s .rights));
-    legs = distinct-keep sameLegs (stays e₀) es (s .legs);
-    refs = distinct-keep sameReferences (stays e₀) es (s .refs);
-    lids = distinct-keep sameLinkIds (stays e₀) es (s .lids);
-    few = is-true (leb (linkIds (keep (stays e₀) es)) 16) (le→leb _ 16 (le-trans (keep-keep-le linked (stays e₀) es) (leb→le (linkIds es) 16 (from-true (s .few)))));
-    mates = all-by (partnered (keep (stays e₀) es)) (keep (stays e₀) es) (λ x m. let r = keep-mem (stays e₀) es m in connection (x .leg) (x .connection) (r .0) (r .1));
+    rights = all-by validEntry (keep (remains e₀) es) (λ x m. all-at validEntry (keep-mem (remains e₀) es m .0) (s .rights));
+    legs = distinct-keep sameLegs (remains e₀) es (s .legs);
+    refs = distinct-keep sameReferences (remains e₀) es (s .refs);
+    lids = distinct-keep sameLinkIds (remains e₀) es (s .lids);
+    few = is-true (leb (linkIds (keep (remains e₀) es)) 16) (le→leb _ 16 (le-trans (keep-keep-le linked (remains e₀) es) (leb→le (linkIds es) 16 (from-true (s .few)))));
+    mates = all-by (partnered (keep (remains e₀) es)) (keep (remains e₀) es) (λ x m. let r = keep-mem (remains e₀) es m in connection (x .leg) (x .connection) (r .0) (r .1));
   }
     where
-      connection : (n : ℕ) (t : Connection) → List·Memᴰ (entry n t) es → stays e₀ (entry n t) ≡ true → validPartner (keep (stays e₀) es) n t ≡ true
+      connection : (n : ℕ) (t : Connection) → List·Memᴰ (entry n t) es → remains e₀ (entry n t) ≡ true → validPartner (keep (remains e₀) es) n t ≡ true
       connection n (WithUser c) m h = refl
       connection n (WithPartner p a) m h = go (mate-of s n p a m)
         where
-          go : (b : Bool) × List·Memᴰ (entry p (WithPartner n b)) es × (eqb n p ≡ false) × ((a && b) ≡ false) → validPartner (keep (stays e₀) es) n (WithPartner p a) ≡ true
-          go r = partner-in n p a (r .0) (mem-keep (stays e₀) (r .1) (stays-with n p a (r .0) m (r .1) h)) (r .2) (r .3)
+          go : (b : Bool) × List·Memᴰ (entry p (WithPartner n b)) es × (eqb n p ≡ false) × ((a && b) ≡ false) → validPartner (keep (remains e₀) es) n (WithPartner p a) ≡ true
+          go r = partner-in n p a (r .0) (mem-keep (remains e₀) (r .1) (stays-with n p a (r .0) m (r .1) h)) (r .2) (r .3)
 
 -- ---- Answer
 
@@ -592,29 +597,26 @@ other-leg {es} s {p} {q} mp mq h = go (test (eqb (p .leg) (q .leg)))
         absurd (true-not-false (eqb-of (p .call .reference .0) (q .call .reference .0) (ap (λ (c : Call). c .reference .0) calls-are)) h)
     go (inr t) = t
 
-pub pair-sound : (es : List Entry) → Sound es → (opt : Options) (p q : Party) (i : IntegerOctets) → List·Memᴰ p (calls es) → List·Memᴰ q (calls es) → partnerFor opt p q ≡ true → Sound (serviceEntries p (Transfer p q i) es)
-pair-sound es s opt p q i mp mq h =
+pub pair-sound : (es : List Entry) → Sound es → (opt : Options) (p q : Party) → List·Memᴰ p (calls es) → List·Memᴰ q (calls es) → partnerFor opt p q ≡ true →
+    Sound (map (mapConnection (joinLegs (p .leg) (q .leg))) es)
+pair-sound es s opt p q mp mq h =
     transfers-sound es s p q mp mq
     (other-leg s mp mq (is-not (left (not (sameCall p q)) _ h)))
     (not-both-ring opt (p .call) (q .call) (right (not (sameCall p q)) _ h))
 
 -- ---- whatever is decided
 
-service-sound : {opt : Options} {z : ℤ} {p : Party} {v : Service} (es : List Entry) → Sound es → List·Memᴰ p (calls es) → ComesTo opt z (calls es) p v → Sound (serviceEntries p v es)
-service-sound es s m silent = s
-service-sound es s m (respond a) = s
-service-sound {z} {p} es s m (assigned i e h) = gives-sound (p .call .reference .0) _ es s h (first-not-live 16 z (live (calls es)) e .not-live)
-service-sound {opt} {p} es s m (transferred {q = q} i n h) = pair-sound es s opt p q i m n h
-
-kept-by : {opt : Options} {z : ℤ} {w : Bool} {q : Request} {d : Decision} (es : List Entry) → Sound es → inRange q ≡ true → Decided opt z w es q d → Sound (entriesAfter d es)
+kept-by : {opt : Options} {z : ℤ} {w : Bool} {q : Request} {d : Decision} (es : List Entry) → Sound es → inRange q ≡ true → Decided opt z w es q d → Sound (entriesAfter (changeOf d) es)
 unfolding entriesAfter
 kept-by es s k (refuses c) = s
+kept-by es s k (changes-nothing f g h) = s
 kept-by es s k (opens-leg {r = r} {l = l} {d = d} e f g) = enters-sound es l r d s (left (validReference r) _ k) e f
 kept-by es s k (sets-state {r = r} {s = t} e h) = moves-sound es s r t e h
 kept-by es s k (sets-auxiliary {r = r} {a = x} {p = p} e h) = holds-sound es s r x e (left (holdable (p .call .state)) _ h)
-kept-by es s k (releases {e = e} m h) = strikes-sound es s e m
-kept-by es s k (serves m v) = service-sound es s m v
+kept-by es s k (releases {e = e} m h) = subst⁻¹ Sound (released (e .leg) (e .connection) es) (strikes-sound es s e m)
+kept-by {z} es s k (assigns-link-id {p = p} i m e h) = gives-sound (p .call .reference .0) _ es s h (first-not-live 16 z (live (calls es)) e .not-live)
+kept-by {opt} es s k (transfers {p = p} {o = q} i m n h) = pair-sound es s opt p q m n h
 kept-by es s k (ends-alerting {l = l}) = stops-sound l es s
 
-pub kept : (opt : Options) (z : ℤ) (w : Bool) (es : List Entry) (q : Request) → Sound es → inRange q ≡ true → Sound (entriesAfter (decide opt z w es q) es)
+pub kept : (opt : Options) (z : ℤ) (w : Bool) (es : List Entry) (q : Request) → Sound es → inRange q ≡ true → Sound (entriesAfter (changeOf (decide opt z w es q)) es)
 kept opt z w es q s k = kept-by es s k (decided opt z w es q)

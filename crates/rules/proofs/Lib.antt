@@ -1,4 +1,5 @@
 -- The theorems about the rules, and the laws that they rest on.
+pub mod Lengths
 pub mod Decided
 pub mod Order
 pub mod Kept

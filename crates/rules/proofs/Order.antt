@@ -21,7 +21,7 @@ use Rattle.component.specs.declared.Operation.{Operation}
 use Rattle.component.specs.declared.Operation.the-variants.{EctExecute, ExplicitEctExecute, EctLinkIdRequest}
 use Rattle.component.specs.declared.Reading.{Reading}
 use Rattle.component.specs.declared.Reading.the-variants.{Ignored, Rejected, Invoked}
-use Rattle.rules.specs.Checks.{named, isNamed, decide, entryAt, decideFacility, Decision, ServeCall, decideOpen, OpenLeg, opened, decideProgress, decideHold, decideRelease, decideAnswer}
+use Rattle.rules.specs.Checks.{named, isNamed, decide, entryAt, decideFacility, serviceDecision, decideOpen, opening, decideProgress, decideHold, decideRelease, decideAnswer}
 use Rattle.events.specs.EventRecords.{Request, Facility, Malformed, Open, Progress, Hold, Release, Answer}
 use Rattle.rules.specs.Serving.{partyLinkId, linkIdRequest, live, newLinkId, perform, execute, partnerFor, executeExplicitly, serve, ifSubscribed}
 use Rattle.octets.proofs.Lists.{testOpt, keep-pick-le, Perm, length-perm, pick-perm, any-perm, only-perm, keep-perm, find-perm}
@@ -80,15 +80,15 @@ entry-perm v h n = find-perm (hasLeg n) h (legs-one n v)
 
 service-perm : {l m : List Entry} → Sound l → Perm l m → (opt : Options) (z : ℤ) (c : List ℕ) (o : Option Party) → decideFacility opt z l c o ≡ decideFacility opt z m c o
 service-perm v h opt z c none = refl
-service-perm v h opt z c (some p) = ap (Decision.ServeCall p) (serve-perm v h opt z p (reading c))
+service-perm v h opt z c (some p) = ap (serviceDecision opt p) (serve-perm v h opt z p (reading c))
 
 pub decide-perm : {l m : List Entry} → Sound l → Perm l m → (opt : Options) (z : ℤ) (full : Bool) (q : Request) → decide opt z full l q ≡ decide opt z full m q
 unfolding decide
 decide-perm v h opt z full (Malformed c) = refl
 decide-perm v h opt z full (Open r l d n) =
-    ap₂ (λ (x y : Bool). decideOpen x y full (OpenLeg l (opened r d) n)) (any-perm (hasLeg l) h) (any-perm (hasReference r) h)
+    ap₂ (λ (x y : Bool). decideOpen x y full (opening r l d n)) (any-perm (hasLeg l) h) (any-perm (hasReference r) h)
 decide-perm v h opt z full (Progress r t) = ap (decideProgress r t) (named-perm v h r)
 decide-perm v h opt z full (Hold r x) = ap (decideHold r x) (named-perm v h r)
 decide-perm v h opt z full (Release l) = ap decideRelease (entry-perm v h l)
 decide-perm {l = es} {m = fs} v h opt z full (Facility r c) = service-perm v h opt z c (named r es) ∙ ap (decideFacility opt z fs c) (named-perm v h r)
-decide-perm v h opt z full (Answer l) = ap (decideAnswer l) (entry-perm v h l)
+decide-perm v h opt z full (Answer l) = ap (decideAnswer opt l) (entry-perm v h l)

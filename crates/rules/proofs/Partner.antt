@@ -1,7 +1,7 @@
 -- Partners: with whom the book has a leg joined after a list of events.
 use Prim.Native.Nat.{ℕ}
 use native.Mathlib.Omega.{arith}
-use mathlib.Core.Path.{_∙_, ap, refl, subst, ap₂, sym, _≡_}
+use mathlib.Core.Path.{_∙_, ap, refl, subst, subst⁻¹, ap₂, sym, _≡_}
 use mathlib.Core.Logic.{_⊎_, inl, inr}
 use mathlib.Core.Bool.{_&&_, _||_, cond, Bool, not, true, false}
 use mathlib.Core.List.{_++_, _∷_, List, [], List·Memᴰ, List·Memᴰ·tail, map, List·Memᴰ·head}
@@ -10,55 +10,48 @@ use lib.Dec.{T, eqb, ltb, leb}
 use lib.ListN.{length}
 use lib.IntN.{ℤ}
 use Rattle.board.proofs.SoundEntries.{legs-one, Sound, one-leg}
-use Rattle.board.specs.Changes.{withLinkId, enter, withState, withAuxiliary}
+use Rattle.board.specs.Changes.{withLinkId, withState, withAuxiliary}
 use Rattle.board.specs.declared.Connection.{Connection}
 use Rattle.board.specs.declared.Connection.the-variants.{WithPartner, WithUser}
 use Rattle.board.specs.declared.Entry.{Entry}
 use Rattle.board.specs.declared.Party.{Party}
 use Rattle.board.specs.Entries.{entry, isPartner, calls, hasLeg, taken}
-use Rattle.board.specs.Making.{options}
 use Rattle.board.specs.States.{delivered}
 use Rattle.board.specs.declared.Board.{Board}
 use Rattle.board.specs.declared.Call.{Call}
 use Rattle.board.specs.declared.Options.{Options}
 use Rattle.rules.proofs.Agreement.{next, Together}
-use Rattle.rules.proofs.Decided.{ComesTo, silent, respond, assigned, transferred, Decided, refuses, opens-leg, sets-state, sets-auxiliary, releases, serves, ends-alerting, decided, refusal-not-0}
-use Rattle.rules.proofs.Kept.{entry-path, party-mem, mate-of}
+use Rattle.rules.proofs.Decided.{Decided, refuses, changes-nothing, opens-leg, sets-state, sets-auxiliary, releases, assigns-link-id, transfers, ends-alerting, decided, refusal-not-0}
+use Rattle.rules.proofs.Kept.{entry-path, party-mem, mate-of, remains}
 use Rattle.rules.proofs.Presence.{stay-leg, opensAt, endsAt, seen-next, together-sound, Unended, unended-head}
-use Rattle.rules.specs.Book.{Book, bookDecision, mapConnection, changeCall, endAlerting, stays, joinLegs, entriesAfter, serviceEntries, bookStep, bookAfter, bookRules}
-use Rattle.rules.specs.Checks.{Decision, Refuse, OpenLeg, SetState, SetAuxiliary, ReleaseLeg, ServeCall, EndAlerting, opened, returnedBy}
+use Rattle.rules.specs.Book.{Book, bookDecision, mapConnection, changeCall, endAlerting, joinLegs, changedEntries, entriesAfter, bookStep, bookAfter, bookRules}
+use Rattle.rules.specs.Checks.{BoardChange, Enter, Apply, Decision, Refuse, opened, releaseOf, returnedBy, changeOf}
 use Rattle.events.specs.EventRecords.{Request, request}
-use Rattle.rules.specs.History.{Event, booked, bookAt, HasRow, Partners, joinsTo, opensLeg, transferOf}
-use Rattle.rules.specs.Replies.{octets}
-use Rattle.rules.specs.Serving.{Service, Silent, Respond, AssignLinkId, Transfer}
-use Rattle.rules.specs.Situations.{call}
-use Rattle.events.specs.declared.Refusal.the-variants.{BufferTooSmall}
+use Rattle.rules.specs.History.{Event, booked, bookAt, HasRow, Partners, joinsTo, joinedBy, opensLeg, transferOf}
 use Rattle.octets.proofs.Lists.{mem-map, mem-keep, eqb-eq, eqb-self, eqb-sym, any-map, right, left, small-one, mem-perm, p-sym, any-of, test, true-not-false, or-right, both, is-true}
 use Rattle.octets.specs.Lists.{keep, any}
 use Rattle.events.specs.declared.Refusal.the-variants as refusal
 
 -- ---- the partner, worked out from event to event
 
--- the party that a transfer joins the leg to
-abbrev pub serviceJoinsFrom : ℕ → Service → Option ℕ → Option ℕ
-serviceJoinsFrom l Silent now = now
-serviceJoinsFrom l (Respond c) now = now
-serviceJoinsFrom l (AssignLinkId z c) now = now
-serviceJoinsFrom l (Transfer p q c) now = cond (eqb l (p .leg)) (some (q .leg)) (cond (eqb l (q .leg)) (some (p .leg)) now)
+-- an Open of the leg leaves it joined to nobody
+abbrev pub since : ℕ → Option BoardChange → Option ℕ → Option ℕ
+since l none now = now
+since l (some (Enter p n)) now = cond (eqb l (p .leg)) none now
+since l (some (Apply c)) now = now
 
-abbrev pub joins : ℕ → Decision → Option ℕ → Option ℕ
-joins l (Refuse c) now = now
-joins l (OpenLeg m c n) now = cond (eqb l m) none now
-joins l (SetState r s) now = now
-joins l (SetAuxiliary r a) now = now
-joins l (ReleaseLeg e) now = now
-joins l (ServeCall p s) now = serviceJoinsFrom l s now
-joins l (EndAlerting m p) now = now
+-- the first of the two that is there
+abbrev pub firstOf : Option ℕ → Option ℕ → Option ℕ
+firstOf none o = o
+firstOf (some m) o = some m
+
+abbrev pub joins : ℕ → Option BoardChange → Option ℕ → Option ℕ
+joins l c now = firstOf (joinedBy l c) (since l c now)
 
 -- the party to whom a transfer has joined the leg since it was opened
 pub partnerOf : Book → Option ℕ → List Event → ℕ → Option ℕ
 partnerOf k now [] l = now
-partnerOf k now (e ∷ es) l = partnerOf (booked k e) (joins l (bookDecision k (e .octets) (e .room)) now) es l
+partnerOf k now (e ∷ es) l = partnerOf (booked k e) (joins l (changeOf (bookDecision k (e .octets) (e .room))) now) es l
 
 -- ---- what an entry says
 
@@ -78,9 +71,9 @@ shape-stop : (n : ℕ) (es : List Entry) (l : ℕ) (o : Option ℕ) → Shape es
 shape-stop n es l none h = (h .0, mem-map (mapConnection (endAlerting n)) (h .1))
 shape-stop n es l (some m) h = (h .0 && not (eqb n l), mem-map (mapConnection (endAlerting n)) (h .1))
 
-shape-keep : (e₀ : Entry) (es : List Entry) (l : ℕ) (o : Option ℕ) → not (eqb l (e₀ .leg) || isPartner l (e₀ .connection)) ≡ true → Shape es l o → Shape (keep (stays e₀) es) l o
-shape-keep e₀ es l none k h = (h .0, mem-keep (stays e₀) (h .1) k)
-shape-keep e₀ es l (some m) k h = (h .0, mem-keep (stays e₀) (h .1) k)
+shape-keep : (e₀ : Entry) (es : List Entry) (l : ℕ) (o : Option ℕ) → not (eqb l (e₀ .leg) || isPartner l (e₀ .connection)) ≡ true → Shape es l o → Shape (keep (remains e₀) es) l o
+shape-keep e₀ es l none k h = (h .0, mem-keep (remains e₀) (h .1) k)
+shape-keep e₀ es l (some m) k h = (h .0, mem-keep (remains e₀) (h .1) k)
 
 shape-join : (es : List Entry) (x y : Party) → List·Memᴰ x (calls es) → List·Memᴰ y (calls es) → (l : ℕ) (now : Option ℕ) → any (hasLeg l) es ≡ true → (any (hasLeg l) es ≡ true → Shape es l now) →
     Shape (map (mapConnection (joinLegs (x .leg) (y .leg))) es) l (cond (eqb l (x .leg)) (some (y .leg)) (cond (eqb l (y .leg)) (some (x .leg)) now))
@@ -112,19 +105,21 @@ shape-join es x y mx my l now on inv = go (eqb l (x .leg)) (eqb l (y .leg)) refl
 
 module _ (l : ℕ) (es : List Entry) (now : Option ℕ) (inv : any (hasLeg l) es ≡ true → Shape es l now) where
   abbrev Kept : Decision → Type 0
-  Kept d = any (hasLeg l) (entriesAfter d es) ≡ true → Shape (entriesAfter d es) l (joins l d now)
+  Kept d = any (hasLeg l) (entriesAfter (changeOf d) es) ≡ true → Shape (entriesAfter (changeOf d) es) l (joins l (changeOf d) now)
 
-  service-shape : {opt : Options} {z : ℤ} {p : Party} {v : Service} → List·Memᴰ p (calls es) → ComesTo opt z (calls es) p v →
-      any (hasLeg l) (serviceEntries p v es) ≡ true → Shape (serviceEntries p v es) l (serviceJoinsFrom l v now)
-  service-shape m silent h = inv h
-  service-shape m (respond a) h = inv h
-  service-shape {p} m (assigned {y = y} i e k) h =
-      shape-call (p .call .reference .0) (withLinkId (record { 0 = y })) es l now (inv (sym (any-map (hasLeg l) (mapConnection (changeCall (p .call .reference .0) (withLinkId (record { 0 = y })))) es) ∙ h))
-  service-shape {p} m (transferred {q = q} i n k) h = shape-join es p q m n l now (sym (any-map (hasLeg l) (mapConnection (joinLegs (p .leg) (q .leg))) es) ∙ h) inv
+  -- a transfer joins the leg, or leaves it as it was
+  joined-or : (a b : ℕ) → firstOf (cond (eqb l a) (some b) (cond (eqb l b) (some a) none)) now ≡ cond (eqb l a) (some b) (cond (eqb l b) (some a) now)
+  joined-or a b = go (eqb l a) (eqb l b)
+    where
+      go : (x y : Bool) → firstOf (cond x (some b) (cond y (some a) none)) now ≡ cond x (some b) (cond y (some a) now)
+      go true y = refl
+      go false true = refl
+      go false false = refl
 
   shaped-by : {opt : Options} {z : ℤ} {w : Bool} {q : Request} {d : Decision} → Decided opt z w es q d → Kept d
   unfolding entriesAfter
   shaped-by (refuses c) = inv
+  shaped-by (changes-nothing f g h) = inv
   shaped-by (opens-leg {r = r} {l = m} {d = d} e f g) = enter (eqb l m) refl
     where
       enter : (b : Bool) → eqb l m ≡ b → (b || any (hasLeg l) es) ≡ true → Shape (entry m (WithUser (opened r d)) ∷ es) l (cond b none now)
@@ -132,14 +127,23 @@ module _ (l : ℕ) (es : List Entry) (now : Option ℕ) (inv : any (hasLeg l) es
       enter false k h = shape-later (entry m (WithUser (opened r d))) es l now (inv h)
   shaped-by (sets-state {r = r} {s = t} e k) = λ h. shape-call r (withState t) es l now (inv (sym (any-map (hasLeg l) (mapConnection (changeCall r (withState t))) es) ∙ h))
   shaped-by (sets-auxiliary {r = r} {a = x} e k) = λ h. shape-call r (withAuxiliary x) es l now (inv (sym (any-map (hasLeg l) (mapConnection (changeCall r (withAuxiliary x))) es) ∙ h))
-  shaped-by (releases {e = e₀} m k) = λ h.
-      let i = sym (stay-leg l e₀ es) ∙ h in
-      shape-keep e₀ es l now (right (any (hasLeg l) es) _ i) (inv (left (any (hasLeg l) es) _ i))
-  shaped-by (serves m v) = service-shape m v
+  shaped-by (releases {e = e₀} m k) = struck (e₀ .leg) (e₀ .connection)
+    where
+      kept : (n : ℕ) (t : Connection) → any (hasLeg l) (keep (remains (entry n t)) es) ≡ true → Shape (keep (remains (entry n t)) es) l now
+      kept n t h = let i = sym (stay-leg l (entry n t) es) ∙ h in shape-keep (entry n t) es l now (right (any (hasLeg l) es) _ i) (inv (left (any (hasLeg l) es) _ i))
+
+      struck : (n : ℕ) (t : Connection) → any (hasLeg l) (changedEntries (releaseOf n t) es) ≡ true → Shape (changedEntries (releaseOf n t) es) l (firstOf (joinsTo l (releaseOf n t)) now)
+      struck n (WithUser c) = kept n (WithUser c)
+      struck n (WithPartner p a) = kept n (WithPartner p a)
+  shaped-by (assigns-link-id {p = p} {y = y} i m e k) = λ h.
+      shape-call (p .call .reference .0) (withLinkId (record { 0 = y })) es l now (inv (sym (any-map (hasLeg l) (mapConnection (changeCall (p .call .reference .0) (withLinkId (record { 0 = y })))) es) ∙ h))
+  shaped-by (transfers {p = p} {o = q} i m n k) = λ h.
+      subst⁻¹ (λ (o : Option ℕ). Shape (map (mapConnection (joinLegs (p .leg) (q .leg))) es) l o) (joined-or (p .leg) (q .leg))
+      (shape-join es p q m n l now (sym (any-map (hasLeg l) (mapConnection (joinLegs (p .leg) (q .leg))) es) ∙ h) inv)
   shaped-by (ends-alerting {l = m}) = λ h. shape-stop m es l now (inv (sym (any-map (hasLeg l) (mapConnection (endAlerting m)) es) ∙ h))
 
 pub shaped-next : (k : Book) (e : Event) (l : ℕ) (now : Option ℕ) → (any (hasLeg l) (k .entries) ≡ true → Shape (k .entries) l now) →
-    any (hasLeg l) (booked k e .entries) ≡ true → Shape (booked k e .entries) l (joins l (bookDecision k (e .octets) (e .room)) now)
+    any (hasLeg l) (booked k e .entries) ≡ true → Shape (booked k e .entries) l (joins l (changeOf (bookDecision k (e .octets) (e .room))) now)
 unfolding bookStep bookAfter bookDecision bookRules entriesAfter
 shaped-next k e l now inv = go (ltb (e .room) 128)
   where
@@ -172,38 +176,20 @@ shape-there es l none h = any-of (hasLeg l) (h .1) (eqb-self l)
 shape-there es l (some m) h = any-of (hasLeg l) (h .1) (eqb-self l)
 
 -- a transfer joins, whatever there was before
-pub joins-some : (l m : ℕ) (now : Option ℕ) (d : Decision) → joinsTo l d ≡ some m → joins l d now ≡ some m
-joins-some l m now (Refuse c) h = let z : _≡_ {A = ℕ} 0 1 = cc in absurd (omega arith)
-joins-some l m now (OpenLeg n c k) h = let z : _≡_ {A = ℕ} 0 1 = cc in absurd (omega arith)
-joins-some l m now (SetState r s) h = let z : _≡_ {A = ℕ} 0 1 = cc in absurd (omega arith)
-joins-some l m now (SetAuxiliary r a) h = let z : _≡_ {A = ℕ} 0 1 = cc in absurd (omega arith)
-joins-some l m now (ReleaseLeg e) h = let z : _≡_ {A = ℕ} 0 1 = cc in absurd (omega arith)
-joins-some l m now (ServeCall p Silent) h = let z : _≡_ {A = ℕ} 0 1 = cc in absurd (omega arith)
-joins-some l m now (ServeCall p (Respond c)) h = let z : _≡_ {A = ℕ} 0 1 = cc in absurd (omega arith)
-joins-some l m now (ServeCall p (AssignLinkId z i)) h = let z : _≡_ {A = ℕ} 0 1 = cc in absurd (omega arith)
-joins-some l m now (ServeCall p (Transfer x y i)) h = go (eqb l (x .leg)) (eqb l (y .leg)) h
-  where
-    go : (a b : Bool) → cond a (some (y .leg)) (cond b (some (x .leg)) none) ≡ some m → cond a (some (y .leg)) (cond b (some (x .leg)) now) ≡ some m
-    go true b k = k
-    go false true k = k
-    go false false k = let z : _≡_ {A = ℕ} 0 1 = cc in absurd (omega arith)
-joins-some l m now (EndAlerting n p) h = let z : _≡_ {A = ℕ} 0 1 = cc in absurd (omega arith)
+pub joins-some : (l m : ℕ) (now : Option ℕ) (c : Option BoardChange) → joinedBy l c ≡ some m → joins l c now ≡ some m
+joins-some l m now c h = ap (λ (o : Option ℕ). firstOf o (since l c now)) h
 
-joins-none : (l : ℕ) (d : Decision) → joinsTo l d ≡ none → joins l d none ≡ none
-joins-none l (Refuse c) h = refl
-joins-none l (OpenLeg m c n) h = go (eqb l m)
+since-none : (l : ℕ) (c : Option BoardChange) → since l c none ≡ none
+since-none l none = refl
+since-none l (some (Enter p n)) = go (eqb l (p .leg))
   where
     go : (b : Bool) → cond {A = Option ℕ} b none none ≡ none
     go true = refl
     go false = refl
-joins-none l (SetState r s) h = refl
-joins-none l (SetAuxiliary r a) h = refl
-joins-none l (ReleaseLeg e) h = refl
-joins-none l (ServeCall p Silent) h = refl
-joins-none l (ServeCall p (Respond c)) h = refl
-joins-none l (ServeCall p (AssignLinkId z i)) h = refl
-joins-none l (ServeCall p (Transfer x y i)) h = h
-joins-none l (EndAlerting m p) h = refl
+since-none l (some (Apply c)) = refl
+
+joins-none : (l : ℕ) (c : Option BoardChange) → joinedBy l c ≡ none → joins l c none ≡ none
+joins-none l c h = ap (λ (o : Option ℕ). firstOf o (since l c none)) h ∙ since-none l c
 
 -- a joined leg is joined to nobody else, and is not opened
 module _ (l m : ℕ) (a₀ : Bool) (es : List Entry) (s : Sound es) (here : List·Memᴰ (entry l (WithPartner m a₀)) es) where
@@ -217,14 +203,13 @@ module _ (l m : ℕ) (a₀ : Bool) (es : List Entry) (s : Sound es) (here : List
           let z : _≡_ {A = ℕ} 0 1 = cc in absurd (omega arith)
       go (inr t) = t
 
-  service-fixed : {opt : Options} {z : ℤ} {p : Party} {v : Service} → List·Memᴰ p (calls es) → ComesTo opt z (calls es) p v → serviceJoinsFrom l v (some m) ≡ some m
-  service-fixed n silent = refl
-  service-fixed n (respond a) = refl
-  service-fixed n (assigned i e h) = refl
-  service-fixed {p} n (transferred {q = q} i k h) = ap₂ (λ (x y : Bool). cond x (some (q .leg)) (cond y (some (p .leg)) (some m))) (no-call p n) (no-call q k)
+  release-fixed : (n : ℕ) (t : Connection) → firstOf (joinsTo l (releaseOf n t)) (some m) ≡ some m
+  release-fixed n (WithUser c) = refl
+  release-fixed n (WithPartner p a) = refl
 
-  joins-fixed : {opt : Options} {z : ℤ} {w : Bool} {q : Request} {d : Decision} → Decided opt z w es q d → joins l d (some m) ≡ some m
+  joins-fixed : {opt : Options} {z : ℤ} {w : Bool} {q : Request} {d : Decision} → Decided opt z w es q d → joins l (changeOf d) (some m) ≡ some m
   joins-fixed (refuses c) = refl
+  joins-fixed (changes-nothing f g h) = refl
   joins-fixed (opens-leg {l = n} e f g) = other (eqb l n) refl
     where
       other : (b : Bool) → eqb l n ≡ b → cond b none (some m) ≡ some m
@@ -232,33 +217,37 @@ module _ (l m : ℕ) (a₀ : Bool) (es : List Entry) (s : Sound es) (here : List
       other false h = refl
   joins-fixed (sets-state e h) = refl
   joins-fixed (sets-auxiliary e h) = refl
-  joins-fixed (releases n h) = refl
-  joins-fixed (serves n v) = service-fixed n v
+  joins-fixed (releases {e = e} n h) = release-fixed (e .leg) (e .connection)
+  joins-fixed (assigns-link-id i n e h) = refl
+  joins-fixed (transfers {p = p} {o = q} i n k h) = ap₂ (λ (x y : Bool). firstOf (cond x (some (q .leg)) (cond y (some (p .leg)) none)) (some m)) (no-call p n) (no-call q k)
   joins-fixed ends-alerting = refl
 
-fixed-next : (k : Book) → Sound (k .entries) → (e : Event) (l m : ℕ) → Shape (k .entries) l (some m) → joins l (bookDecision k (e .octets) (e .room)) (some m) ≡ some m
+fixed-next : (k : Book) → Sound (k .entries) → (e : Event) (l m : ℕ) → Shape (k .entries) l (some m) → joins l (changeOf (bookDecision k (e .octets) (e .room))) (some m) ≡ some m
 unfolding bookDecision bookRules
 fixed-next k s e l m h = go (ltb (e .room) 128)
   where
-    go : (x : Bool) → joins l (cond x (Refuse refusal.BufferTooSmall) (bookRules k (e .octets))) (some m) ≡ some m
+    go : (x : Bool) → joins l (changeOf (cond x (Refuse refusal.BufferTooSmall) (bookRules k (e .octets)))) (some m) ≡ some m
     go true = refl
     go false = joins-fixed l m (h .0) (k .entries) s (h .1) (decided (k .options) (k .candidate) (leb 64 (length (k .entries))) (k .entries) (request (e .octets)))
 
 -- an accepted Open of the leg leaves it joined to nobody
-opened-none : {opt : Options} {z : ℤ} {w : Bool} {es : List Entry} {q : Request} {d : Decision} (l : ℕ) (now : Option ℕ) → Decided opt z w es q d → eqb (returnedBy d) 0 ≡ true → opensLeg l q ≡ true → joins l d now ≡ none
+opened-none : {opt : Options} {z : ℤ} {w : Bool} {es : List Entry} {q : Request} {d : Decision} (l : ℕ) (now : Option ℕ) → Decided opt z w es q d → eqb (returnedBy d) 0 ≡ true → opensLeg l q ≡ true →
+    joins l (changeOf d) now ≡ none
 opened-none l now (refuses c) h k = absurd (true-not-false h (refusal-not-0 c))
+opened-none l now (changes-nothing f g s) h k = absurd (true-not-false k (f l))
 opened-none l now (opens-leg {l = m} e f g) h k = ap (λ (b : Bool). cond b none now) k
 opened-none l now (sets-state e f) h k = absurd (true-not-false k refl)
 opened-none l now (sets-auxiliary e f) h k = absurd (true-not-false k refl)
 opened-none l now (releases m f) h k = absurd (true-not-false k refl)
-opened-none l now (serves m v) h k = absurd (true-not-false k refl)
+opened-none l now (assigns-link-id i m e f) h k = absurd (true-not-false k refl)
+opened-none l now (transfers i m n f) h k = absurd (true-not-false k refl)
 opened-none l now ends-alerting h k = absurd (true-not-false k refl)
 
-pub opened-next : (k : Book) (e : Event) (l : ℕ) (now : Option ℕ) → opensAt k e l ≡ true → joins l (bookDecision k (e .octets) (e .room)) now ≡ none
+pub opened-next : (k : Book) (e : Event) (l : ℕ) (now : Option ℕ) → opensAt k e l ≡ true → joins l (changeOf (bookDecision k (e .octets) (e .room))) now ≡ none
 unfolding opensAt bookDecision bookRules
 opened-next k e l now h = go (ltb (e .room) 128) h
   where
-    go : (x : Bool) → (eqb (returnedBy (cond x (Refuse refusal.BufferTooSmall) (bookRules k (e .octets)))) 0 && opensLeg l (request (e .octets))) ≡ true → joins l (cond x (Refuse refusal.BufferTooSmall) (bookRules k (e .octets))) now ≡ none
+    go : (x : Bool) → (eqb (returnedBy (cond x (Refuse refusal.BufferTooSmall) (bookRules k (e .octets)))) 0 && opensLeg l (request (e .octets))) ≡ true → joins l (changeOf (cond x (Refuse refusal.BufferTooSmall) (bookRules k (e .octets)))) now ≡ none
     go true k = absurd (true-not-false k refl)
     go false h =
         opened-none l now (decided (k .options) (k .candidate) (leb 64 (length (k .entries))) (k .entries) (request (e .octets)))
@@ -285,7 +274,7 @@ call-stays t [] l h f g = h
 call-stays {b} {k} t (e ∷ es) l h f g =
     let r = unended-head k e es l f in
     call-stays (next t e .together) es l
-    (subst (λ (o : Option ℕ). Shape (booked k e .entries) l o) (joins-none l (bookDecision k (e .octets) (e .room)) (g [] es e refl))
+    (subst (λ (o : Option ℕ). Shape (booked k e .entries) l o) (joins-none l (changeOf (bookDecision k (e .octets) (e .room))) (g [] es e refl))
     (shaped-next k e l none (λ _. h) (still-there t e l (shape-there (k .entries) l none h) (r .0))))
     (r .1)
     (λ mid rest x p. g (e ∷ mid) rest x (ap {B = List Event} (λ q. e ∷ q) p))

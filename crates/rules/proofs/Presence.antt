@@ -13,24 +13,18 @@ use Rattle.board.specs.Changes.{withLinkId, withState, withAuxiliary}
 use Rattle.board.specs.declared.Connection.{Connection}
 use Rattle.board.specs.declared.Connection.the-variants.{WithUser, WithPartner}
 use Rattle.board.specs.declared.Entry.{Entry}
-use Rattle.board.specs.declared.Party.{Party}
 use Rattle.board.specs.Entries.{hasLeg, isPartner, entry}
-use Rattle.board.specs.Making.{options}
 use Rattle.board.specs.declared.Board.{Board}
 use Rattle.board.specs.declared.Options.{Options}
 use Rattle.rules.proofs.Agreement.{next, Together}
-use Rattle.rules.proofs.Decided.{refusal-not-0, Decided, refuses, opens-leg, sets-state, sets-auxiliary, releases, serves, ends-alerting, decided}
-use Rattle.rules.proofs.Kept.{mate-of}
-use Rattle.rules.specs.Book.{Book, stays, serviceEntries, mapConnection, changeCall, joinLegs, entriesAfter, endAlerting, bookStep, bookAfter, bookDecision, bookRules}
-use Rattle.rules.specs.Checks.{opened, Decision, returnedBy, Refuse}
+use Rattle.rules.proofs.Decided.{refusal-not-0, Decided, refuses, changes-nothing, opens-leg, sets-state, sets-auxiliary, releases, assigns-link-id, transfers, ends-alerting, decided}
+use Rattle.rules.proofs.Kept.{mate-of, remains, released}
+use Rattle.rules.specs.Book.{Book, mapConnection, changeCall, joinLegs, entriesAfter, endAlerting, bookStep, bookAfter, bookDecision, bookRules}
+use Rattle.rules.specs.Checks.{Decision, returnedBy, changeOf, Refuse}
 use Rattle.events.specs.Refusals.{refusalNumber}
 use Rattle.events.specs.EventRecords.{request, Request}
 use Rattle.rules.specs.History.{Event, accepts, opensLeg, endsLeg, bookAt, booked, joinedWith}
-use Rattle.rules.specs.Replies.{octets}
-use Rattle.rules.specs.Serving.{Service, Silent, Respond, AssignLinkId, Transfer}
-use Rattle.rules.specs.Situations.{after, call}
 use Rattle.events.specs.declared.Refusal.{Refusal}
-use Rattle.events.specs.declared.Refusal.the-variants.{BufferTooSmall}
 use Rattle.octets.proofs.Lists.{same-tests, any-has, keep-mem, both, any-of, eqb-eq, left, mem-keep, right, true-not-false, any-map, or-cases, from-true, or-right, is-true, or-left}
 use Rattle.octets.specs.Lists.{any, keep}
 use Rattle.events.specs.declared.Refusal.the-variants as refusal
@@ -69,22 +63,22 @@ and-true false = refl
 
 -- ---- presence after one event
 
-pub stay-leg : (l : ℕ) (e₀ : Entry) (es : List Entry) → any (hasLeg l) (keep (stays e₀) es) ≡ (any (hasLeg l) es && not (eqb l (e₀ .leg) || isPartner l (e₀ .connection)))
+pub stay-leg : (l : ℕ) (e₀ : Entry) (es : List Entry) → any (hasLeg l) (keep (remains e₀) es) ≡ (any (hasLeg l) es && not (eqb l (e₀ .leg) || isPartner l (e₀ .connection)))
 stay-leg l e₀ es = same-tests to from
   where
     S : ℕ → Bool
     S n = not (eqb n (e₀ .leg) || isPartner n (e₀ .connection))
 
-    to : any (hasLeg l) (keep (stays e₀) es) ≡ true → (any (hasLeg l) es && not (eqb l (e₀ .leg) || isPartner l (e₀ .connection))) ≡ true
+    to : any (hasLeg l) (keep (remains e₀) es) ≡ true → (any (hasLeg l) es && not (eqb l (e₀ .leg) || isPartner l (e₀ .connection))) ≡ true
     to h =
-        let r = any-has (hasLeg l) (keep (stays e₀) es) h in
-        let m = keep-mem (stays e₀) es (r .1) in
+        let r = any-has (hasLeg l) (keep (remains e₀) es) h in
+        let m = keep-mem (remains e₀) es (r .1) in
         both (any-of (hasLeg l) (m .0) (r .2)) (ap S (eqb-eq l (r .0 .leg) (r .2)) ∙ m .1)
 
-    from : (any (hasLeg l) es && not (eqb l (e₀ .leg) || isPartner l (e₀ .connection))) ≡ true → any (hasLeg l) (keep (stays e₀) es) ≡ true
+    from : (any (hasLeg l) es && not (eqb l (e₀ .leg) || isPartner l (e₀ .connection))) ≡ true → any (hasLeg l) (keep (remains e₀) es) ≡ true
     from h =
         let r = any-has (hasLeg l) es (left (any (hasLeg l) es) _ h) in
-        any-of (hasLeg l) (mem-keep (stays e₀) (r .1) (sym (ap S (eqb-eq l (r .0 .leg) (r .2))) ∙ right (any (hasLeg l) es) _ h)) (r .2)
+        any-of (hasLeg l) (mem-keep (remains e₀) (r .1) (sym (ap S (eqb-eq l (r .0 .leg) (r .2))) ∙ right (any (hasLeg l) es) _ h)) (r .2)
 
 -- the one entry of m is joined to l where l's is joined to m
 joined-same : {es : List Entry} → Sound es → (l m : ℕ) (e₀ : Entry) → List·Memᴰ e₀ es → eqb m (e₀ .leg) ≡ true → isPartner l (e₀ .connection) ≡ any (joinedWith l m) es
@@ -107,15 +101,9 @@ joined-same {es} s l m e₀ here h = same-tests (to (e₀ .leg) (e₀ .connectio
         let r = any-has (joinedWith l m) es k in
         at (r .0 .leg) (r .0 .connection) (r .1) (left (hasLeg l (r .0)) _ (r .2)) (right (hasLeg l (r .0)) _ (r .2))
 
-service-legs : (l : ℕ) (p : Party) (v : Service) (es : List Entry) → any (hasLeg l) (serviceEntries p v es) ≡ any (hasLeg l) es
-service-legs l p Silent es = refl
-service-legs l p (Respond c) es = refl
-service-legs l p (AssignLinkId z i) es = any-map (hasLeg l) (mapConnection (changeCall (p .call .reference .0) (withLinkId z))) es
-service-legs l p (Transfer x y i) es = any-map (hasLeg l) (mapConnection (joinLegs (x .leg) (y .leg))) es
-
 -- whether the leg is there after a decision: it is opened, or was there and is not ended
 abbrev Seen : ℕ → List Entry → Request → Decision → Type 0
-Seen l es q d = any (hasLeg l) (entriesAfter d es) ≡ ((eqb (returnedBy d) 0 && opensLeg l q) || (any (hasLeg l) es && not (eqb (returnedBy d) 0 && endsLeg es l q)))
+Seen l es q d = any (hasLeg l) (entriesAfter (changeOf d) es) ≡ ((eqb (returnedBy d) 0 && opensLeg l q) || (any (hasLeg l) es && not (eqb (returnedBy d) 0 && endsLeg es l q)))
 
 not-moved : (l : ℕ) (es : List Entry) (c : Refusal) (x y : Bool) → any (hasLeg l) es ≡ ((eqb (refusalNumber c) 0 && x) || (any (hasLeg l) es && not (eqb (refusalNumber c) 0 && y)))
 not-moved l es c x y = subst⁻¹ (λ (b : Bool). any (hasLeg l) es ≡ ((b && x) || (any (hasLeg l) es && not (b && y)))) (refusal-not-0 c) (sym (and-true (any (hasLeg l) es)))
@@ -123,13 +111,16 @@ not-moved l es c x y = subst⁻¹ (λ (b : Bool). any (hasLeg l) es ≡ ((b && x
 seen-by : {opt : Options} {z : ℤ} {w : Bool} {q : Request} {d : Decision} (l : ℕ) (es : List Entry) → Sound es → Decided opt z w es q d → Seen l es q d
 unfolding entriesAfter
 seen-by {q} l es s (refuses c) = not-moved l es c (opensLeg l q) (endsLeg es l q)
+seen-by {q} l es s (changes-nothing f g h) = sym (ap₂ (λ (x y : Bool). x || (any (hasLeg l) es && not y)) (f l) (g l) ∙ and-true (any (hasLeg l) es))
 seen-by l es s (opens-leg {l = m} e f g) = ap (λ (b : Bool). eqb l m || b) (sym (and-true (any (hasLeg l) es)))
 seen-by l es s (sets-state {r = r} {s = t} e h) = any-map (hasLeg l) (mapConnection (changeCall r (withState t))) es ∙ sym (and-true (any (hasLeg l) es))
 seen-by l es s (sets-auxiliary {r = r} {a = x} e h) = any-map (hasLeg l) (mapConnection (changeCall r (withAuxiliary x))) es ∙ sym (and-true (any (hasLeg l) es))
 seen-by l es s (releases {l = m} {e = e₀} i h) =
-    stay-leg l e₀ es
+    ap (any (hasLeg l)) (released (e₀ .leg) (e₀ .connection) es)
+    ∙ stay-leg l e₀ es
     ∙ ap₂ (λ (x y : Bool). any (hasLeg l) es && not (x || y)) (ap (eqb l) (sym (eqb-eq m (e₀ .leg) h))) (joined-same s l m e₀ i h)
-seen-by l es s (serves {p = p} {v = v} m h) = service-legs l p v es ∙ sym (and-true (any (hasLeg l) es))
+seen-by l es s (assigns-link-id {p = p} {y = z} i m e h) = any-map (hasLeg l) (mapConnection (changeCall (p .call .reference .0) (withLinkId (record { 0 = z })))) es ∙ sym (and-true (any (hasLeg l) es))
+seen-by l es s (transfers {p = x} {o = y} i m n h) = any-map (hasLeg l) (mapConnection (joinLegs (x .leg) (y .leg))) es ∙ sym (and-true (any (hasLeg l) es))
 seen-by l es s (ends-alerting {l = m}) = any-map (hasLeg l) (mapConnection (endAlerting m)) es ∙ sym (and-true (any (hasLeg l) es))
 
 pub seen-next : (k : Book) → Sound (k .entries) → (e : Event) (l : ℕ) → any (hasLeg l) (booked k e .entries) ≡ (opensAt k e l || (any (hasLeg l) (k .entries) && not (endsAt k e l)))

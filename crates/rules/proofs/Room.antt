@@ -1,42 +1,41 @@
 -- An event writes at most 92 octets, so what it writes fits the 128 that are asked for.
-use Prim.Native.Nat.{_+_, _≤_, ℕ, zero-le}
+use Prim.Native.Nat.{_≤_, ℕ, zero-le}
 use native.Mathlib.Omega.{arith}
 use mathlib.Core.Path.{_≡_, refl}
 use mathlib.Core.Bool.{_&&_, true, false, Bool, cond}
-use mathlib.Core.List.{_++_, _∷_, List, []}
+use mathlib.Core.List.{_∷_, List, []}
 use mathlib.Core.Option.{Option, none, some}
 use lib.Dec.{eqb, leb, ltb}
-use lib.ListN.{length, length-append, take}
+use lib.IntN.{ℤ}
+use lib.ListN.{length, take}
 use Rattle.board.specs.declared.PartyNumber.{PartyNumber}
 use Rattle.board.specs.declared.Connection.{Connection}
 use Rattle.board.specs.declared.Connection.the-variants.{WithUser, WithPartner}
-use Rattle.board.specs.Entries.{occupied}
-use Rattle.board.specs.Making.{options}
+use Rattle.board.specs.declared.Entry.{Entry}
+use Rattle.board.specs.declared.Options.{Options}
+use Rattle.board.specs.declared.Party.{Party}
+use Rattle.board.specs.Changes.{full}
+use Rattle.board.specs.Entries.{occupied, taken}
 use Rattle.board.specs.Soundness.{validDigits, validStanding, validRow, sound, soundRows, validOptions}
 use Rattle.board.specs.States.{delivered}
 use Rattle.board.specs.declared.Board.{Board}
 use Rattle.board.specs.declared.Row.{Row}
 use Rattle.board.specs.declared.Standing.{Standing}
 use Rattle.board.specs.declared.Standing.the-variants.{Empty, Served, Joined}
-use Rattle.component.proofs.Length.{answer-length, filled-length}
-use Rattle.component.specs.Answers.{answerOctets}
-use Rattle.component.specs.declared.Answer.the-variants.{LinkIdResult, Result}
-use Rattle.rules.specs.Checks.{Decision, Refuse, OpenLeg, SetState, SetAuxiliary, ReleaseLeg, ServeCall, EndAlerting}
+use Rattle.component.specs.declared.Answer.the-variants as answer
+use Rattle.octets.specs.declared.IntegerOctets.{IntegerOctets}
+use Rattle.rules.proofs.Decided.{Decided, refuses, changes-nothing, opens-leg, sets-state, sets-auxiliary, releases, assigns-link-id, transfers, ends-alerting, decided}
+use Rattle.rules.proofs.Lengths.{Short, nothing-short, reply-short, one-length, tells-length, transfer-length}
+use Rattle.rules.specs.Checks.{Decision, writtenBy}
 use Rattle.events.specs.Refusals.{refusalNumber}
-use Rattle.rules.specs.Replies.{recordOctets, Reply, numberAt, Number, markOnly, numberOfRow, told, ReplyRecord, octets, drops, DropOrder, NamedFirst, OtherFirst, tells, answerTold}
-use Rattle.rules.specs.Serving.{Service, Silent, Respond, AssignLinkId, Transfer}
-use Rattle.rules.specs.Step.{serviceReplies, releaseReplies, replies, step, stepTested, Outcome, refused, done, decision}
-use Rattle.events.specs.declared.Refusal.the-variants.{BufferTooSmall, UnsoundBoard}
+use Rattle.events.specs.EventRecords.{Request, request}
+use Rattle.rules.specs.Replies.{numberAt, Number, markOnly, numberOfRow, octets, DropOrder, tells, Tell, facility, transferredActive, transferReplies, releaseReplies, answerTold}
+use Rattle.rules.specs.Step.{replies, step, stepTested, Outcome, refused, done, decision}
 use Rattle.octets.proofs.Lists.{eqb-eq, left, true-not-false, right, find-mem, all-at}
 use Rattle.octets.specs.Lists.{all, find}
 use Rattle.events.specs.declared.Refusal.the-variants as refusal
-use Rattle.component.specs.declared.Answer.the-variants as answer
-use Rattle.component.specs.declared.Answer.{Answer}
 
--- ---- each record
-
-pub reply-length : (r : ℕ) (a : Answer) → length (recordOctets (Reply r a)) ≡ 36
-reply-length r a = omega (arith, filled-length (answerOctets a) (answer-length a))
+-- ---- a number has 15 digits
 
 -- the digits of a valid row that is taken
 fifteen : (n : ℕ) (ds : List ℕ) → validDigits n ds ≡ true → length ds ≡ 15
@@ -71,69 +70,44 @@ number-length rows k l = go (find at-leg rows) refl
         chosen (eqb (r .number .count) 0) (eqb (r .number .presentation) 1) (r .number)
         (row-digits (r .leg) (r .number) (r .standing) (right (eqb l (r .leg)) (occupied (r .standing)) (f .1)) (all-at validRow (f .0) k))
 
-told-length : (l : ℕ) (a b : Bool) (n : Number) → length (n .digits) ≡ 15 → length (recordOctets (told l a b n)) ≡ 25
-told-length l false false n h = omega arith
-told-length l false true n h = refl
-told-length l true b n h = omega arith
+-- ---- what an event writes
 
--- ---- the records of an event
+transfer-short : (o : Options) (r : ℕ) (i : IntegerOctets) (p q : Party) → Short (transferReplies o r i p q)
+transfer-short o r i p q = record {
+  fits = λ order numbers k.
+      let w = tells-length (p .leg) (q .leg) (delivered (p .call)) (delivered (q .call)) (numbers (q .leg)) (numbers (p .leg)) (k (q .leg)) (k (p .leg)) in
+      let e = transfer-length order r (answer.Result i) (p .call .reference .0) (q .call .reference .0) (tells o numbers p q) w in
+      omega arith;
+}
 
-pub one-length : (r : ReplyRecord) → length (octets (r ∷ [])) ≡ length (recordOctets r)
+release-short : (t : Connection) → Short (releaseReplies t)
 unfolding octets
-one-length r = let e = length-append (recordOctets r) [] in omega arith
+release-short (WithUser c) = record { fits = λ order numbers k. omega arith }
+release-short (WithPartner p a) = record { fits = λ order numbers k. omega arith }
 
-drops-length : (o : DropOrder) (a b : ℕ) (rest : List ReplyRecord) → length (octets (drops o a b ++ rest)) ≡ 6 + length (octets rest)
-unfolding octets
-drops-length NamedFirst a b rest = omega arith
-drops-length OtherFirst a b rest = omega arith
+answer-short : (o : Options) (l p : ℕ) → Short (answerTold o l p)
+answer-short o l p = record { fits = λ order numbers k. omega (arith, k l, one-length (Tell p facility transferredActive (numbers l) 0)) }
 
-pub tells-length : (l m : ℕ) (a b : Bool) (n k : Number) → length (n .digits) ≡ 15 → length (k .digits) ≡ 15 → length (octets (told l a b n ∷ told m b a k ∷ [])) ≡ 50
-unfolding octets
-tells-length l m a b n k h j =
-    let e = length-append (recordOctets (told l a b n)) (octets (told m b a k ∷ [])) in
-    omega (arith, told-length l a b n h, told-length m b a k j, one-length (told m b a k))
-
-pub transfer-length : (order : DropOrder) (r : ℕ) (x : Answer) (a b : ℕ) (rest : List ReplyRecord) → length (octets rest) ≡ 50 → length (octets (Reply r x ∷ (drops order a b ++ rest))) ≡ 92
-unfolding octets
-transfer-length order r x a b rest h =
-    let e = length-append (recordOctets (Reply r x)) (octets (drops order a b ++ rest)) in
-    omega (arith, reply-length r x, drops-length order a b rest, h)
-
-service-length : (order : DropOrder) (rows : List Row) → all validRow rows ≡ true → (r : ℕ) (v : Service) → length (octets (serviceReplies order rows r v)) ≤ 92
-unfolding octets
-service-length order rows k r Silent = zero-le
-service-length order rows k r (Respond a) = let e = one-length (Reply r a) in let f = reply-length r a in omega arith
-service-length order rows k r (AssignLinkId l i) = let e = one-length (Reply r (answer.LinkIdResult i l)) in let f = reply-length r (answer.LinkIdResult i l) in omega arith
-service-length order rows k r (Transfer p q i) =
-    let w = tells-length (p .leg) (q .leg) (delivered (p .call)) (delivered (q .call)) (numberAt rows (q .leg)) (numberAt rows (p .leg)) (number-length rows k (q .leg)) (number-length rows k (p .leg)) in
-    let e = transfer-length order r (answer.Result i) (p .call .reference .0) (q .call .reference .0) (tells rows p q) w in
-    omega arith
-
-release-length : (t : Connection) → length (octets (releaseReplies t)) ≤ 92
-unfolding octets
-release-length (WithUser c) = omega arith
-release-length (WithPartner p a) = omega arith
-
-replies-length : (order : DropOrder) (rows : List Row) → all validRow rows ≡ true → (d : Decision) → length (octets (replies order rows d)) ≤ 92
-unfolding octets replies
-replies-length order rows k (Refuse c) = zero-le
-replies-length order rows k (OpenLeg l c n) = zero-le
-replies-length order rows k (SetState r s) = zero-le
-replies-length order rows k (SetAuxiliary r a) = zero-le
-replies-length order rows k (ReleaseLeg e) = release-length (e .connection)
-replies-length order rows k (ServeCall p s) = service-length order rows k (p .call .reference .0) s
-replies-length order rows k (EndAlerting l p) =
-    let e = number-length rows k l in
-    let f = one-length (answerTold rows l p) in
-    omega arith
+short-by : {opt : Options} {z : ℤ} {w : Bool} {es : List Entry} {q : Request} {d : Decision} → Decided opt z w es q d → Short (writtenBy d)
+short-by (refuses c) = nothing-short
+short-by (changes-nothing f g h) = h
+short-by (opens-leg e f g) = nothing-short
+short-by (sets-state e h) = nothing-short
+short-by (sets-auxiliary e h) = nothing-short
+short-by (releases {e = e} m h) = release-short (e .connection)
+short-by (assigns-link-id {p = p} {y = y} i m e h) = reply-short (p .call .reference .0) (answer.LinkIdResult i (record { 0 = y }))
+short-by {opt} (transfers {p = p} {o = q} i m n h) = transfer-short opt (p .call .reference .0) i p q
+short-by {opt} (ends-alerting {l = l} {p = p}) = answer-short opt l p
 
 -- whatever the board, the event and the buffer, what is written fits
 pub room-enough : (order : DropOrder) (b : Board) (os : List ℕ) (room : ℕ) → length (octets (step order b os room .replies)) ≤ 92
-unfolding step stepTested sound soundRows octets
+unfolding step stepTested sound soundRows octets replies decision
 room-enough order b os room = go (ltb room 128) (sound b) refl
   where
     go : (x y : Bool) → sound b ≡ y →
         length (octets ((cond {A = Outcome} x (refused (refusalNumber refusal.BufferTooSmall) b) (cond y (done order b (decision b os)) (refused (refusalNumber refusal.UnsoundBoard) b))) .replies)) ≤ 92
     go true y h = zero-le
-    go false true h = replies-length order (b .rows) (left (all validRow (b .rows)) _ (right (validOptions (b .options)) _ h)) (decision b os)
+    go false true h =
+        short-by (decided (b .options) (b .candidate .0) (full (b .rows)) (taken (b .rows)) (request os)) .fits order (numberAt (b .rows))
+        (number-length (b .rows) (left (all validRow (b .rows)) _ (right (validOptions (b .options)) _ h)))
     go false false h = zero-le

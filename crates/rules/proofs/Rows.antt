@@ -14,29 +14,25 @@ use Rattle.board.specs.Changes.{changedCall, joined, answered, emptiedIf, chang
 use Rattle.board.specs.declared.Connection.{Connection}
 use Rattle.board.specs.declared.Connection.the-variants.{WithPartner, WithUser}
 use Rattle.board.specs.declared.Entry.{Entry}
-use Rattle.board.specs.declared.Party.{Party}
-use Rattle.board.specs.Entries.{taken, rowEntry, entryOf, occupied}
+use Rattle.board.specs.Entries.{taken, rowEntry, entryOf, occupied, isNumber}
 use Rattle.board.specs.Making.{emptyRow}
-use Rattle.board.specs.Soundness.{validNumber, validStanding, validRow}
+use Rattle.board.specs.Soundness.{validDigits, validNumber, validStanding, validRow}
 use Rattle.board.specs.States.{delivered, validReference}
 use Rattle.board.specs.declared.Call.{Call}
-use Rattle.board.specs.declared.Change.the-variants.{ReleasePair}
+use Rattle.board.specs.declared.Change.{Change}
 use Rattle.board.specs.declared.Options.{Options}
 use Rattle.board.specs.declared.Row.{Row}
 use Rattle.board.specs.declared.Standing.{Standing}
 use Rattle.board.specs.declared.Standing.the-variants.{Empty, Served, Joined}
-use Rattle.rules.proofs.Decided.{Decided, refuses, opens-leg, sets-state, sets-auxiliary, releases, serves, ends-alerting, decided}
-use Rattle.rules.specs.Book.{mapConnection, changeCall, joinLegs, endAlerting, stays, serviceEntries, entriesAfter, serviceMoves, candidateMoves}
-use Rattle.rules.specs.Checks.{Decision, Refuse, OpenLeg, SetState, SetAuxiliary, ReleaseLeg, ServeCall, EndAlerting, decide}
-use Rattle.events.specs.EventRecords.{Release, Request, inRange}
-use Rattle.rules.specs.Serving.{Service, Silent, Respond, AssignLinkId, Transfer}
-use Rattle.rules.specs.Situations.{call}
-use Rattle.rules.specs.Step.{releaseOf, serviceRows, rowsAfter, serviceCandidate, candidateAfter}
+use Rattle.rules.proofs.Decided.{decided, Decided, refuses, changes-nothing, opens-leg, sets-state, sets-auxiliary, releases, assigns-link-id, transfers, ends-alerting}
+use Rattle.rules.specs.Book.{mapConnection, changeCall, joinLegs, endAlerting, stays, changedEntries, entriesAfter, movedBy, candidateMoves}
+use Rattle.rules.specs.Checks.{BoardChange, Enter, Apply, Decision, decide, changeOf, newLinkIdOf}
+use Rattle.events.specs.EventRecords.{Request, inRange}
+use Rattle.rules.specs.Step.{rowsAfter, candidateBy, candidateAfter}
 use Rattle.octets.proofs.Lists.{Perm, true-not-false, p-trans, p-skip, p-swap, p-of, is-not, is-true, right, p-refl, map-perm, keep-perm, all-map, all-ext, left, all-by, all-at, both}
 use Rattle.octets.specs.Lists.{consOpt, keep, all, consIf, any}
 use Rattle.octets.specs.declared.CallReference.{CallReference}
 use Rattle.octets.specs.declared.LinkId.{LinkId}
-use Rattle.events.specs.declared.Refusal.the-variants as refusal
 use Rattle.board.specs.declared.Change.the-variants as change
 
 -- ---- rows read as entries
@@ -74,16 +70,16 @@ stop-shown l n (Served c) = refl
 stop-shown l n (Joined p a) = refl
 
 -- a row is emptied where its leg is the released one or its partner: its entry does not stay
-emptied-shown : (e : Entry) (r : Row) (b : Bool) → stays e (record { leg = r .leg; connection = e .connection }) ≡ not b → (l : List Entry) →
-    consOpt (rowEntry (emptiedIf b r)) (keep (stays e) l) ≡ keep (stays e) (consOpt (rowEntry r) l)
-emptied-shown e r b h l = go b (r .standing) h
+emptied-shown : (l : ℕ) (o : Option ℕ) (r : Row) (b : Bool) → not (eqb (r .leg) l || isNumber (r .leg) o) ≡ not b → (es : List Entry) →
+    consOpt (rowEntry (emptiedIf b r)) (keep (stays l o) es) ≡ keep (stays l o) (consOpt (rowEntry r) es)
+emptied-shown l o r b h es = go b (r .standing) h
   where
-    same : (x : Entry) (k c : Bool) → k ≡ c → consIf c x (keep (stays e) l) ≡ consIf k x (keep (stays e) l)
-    same x k c u = ap (λ (d : Bool). consIf d x (keep (stays e) l)) (sym u)
+    same : (x : Entry) (k c : Bool) → k ≡ c → consIf c x (keep (stays l o) es) ≡ consIf k x (keep (stays l o) es)
+    same x k c u = ap (λ (d : Bool). consIf d x (keep (stays l o) es)) (sym u)
 
-    go : (b : Bool) (t : Standing) → stays e (record { leg = r .leg; connection = e .connection }) ≡ not b →
-        consOpt (rowEntry (emptiedIf b (record { leg = r .leg; number = r .number; standing = t }))) (keep (stays e) l)
-        ≡ keep (stays e) (consOpt (entryOf (r .leg) t) l)
+    go : (b : Bool) (t : Standing) → not (eqb (r .leg) l || isNumber (r .leg) o) ≡ not b →
+        consOpt (rowEntry (emptiedIf b (record { leg = r .leg; number = r .number; standing = t }))) (keep (stays l o) es)
+        ≡ keep (stays l o) (consOpt (entryOf (r .leg) t) es)
     go true Empty u = refl
     go true (Served c) u = same (record { leg = r .leg; connection = WithUser c }) _ false u
     go true (Joined p a) u = same (record { leg = r .leg; connection = WithPartner p a }) _ false u
@@ -95,14 +91,17 @@ or-none : (b : Bool) → (b || false) ≡ b
 or-none true = refl
 or-none false = refl
 
-release-view : (n : ℕ) (t : Connection) (rows : List Row) → taken (changedRows (releaseOf n t) rows) ≡ keep (stays (record { leg = n; connection = t })) (taken rows)
+change-view : (c : Change) (rows : List Row) → taken (changedRows c rows) ≡ changedEntries c (taken rows)
 unfolding changedRows rowAfter
-release-view n (WithUser c) rows =
-    taken-keep (rowAfter (change.Release n)) (stays (record { leg = n; connection = WithUser c }))
-    (λ r l. emptied-shown (record { leg = n; connection = WithUser c }) r (eqb (r .leg) n) (ap not (or-none (eqb (r .leg) n))) l) rows
-release-view n (WithPartner p a) rows =
-    taken-keep (rowAfter (change.ReleasePair n p)) (stays (record { leg = n; connection = WithPartner p a }))
-    (λ r l. emptied-shown (record { leg = n; connection = WithPartner p a }) r (eqb (r .leg) n || eqb (r .leg) p) refl l) rows
+change-view (change.SetState r s) rows = taken-map _ _ (λ x. call-shown r (withState s) (x .leg) (x .standing)) rows
+change-view (change.SetAuxiliary r a) rows = taken-map _ _ (λ x. call-shown r (withAuxiliary a) (x .leg) (x .standing)) rows
+change-view (change.SetLinkId r l) rows = taken-map _ _ (λ x. call-shown r (withLinkId l) (x .leg) (x .standing)) rows
+change-view (change.Join a b) rows = taken-map _ _ (λ x. join-shown a b (x .leg) (x .standing)) rows
+change-view (change.EndAlerting l) rows = taken-map _ _ (λ x. stop-shown l (x .leg) (x .standing)) rows
+change-view (change.Release l) rows =
+    taken-keep (rowAfter (change.Release l)) (stays l none) (λ r es. emptied-shown l none r (eqb (r .leg) l) (ap not (or-none (eqb (r .leg) l))) es) rows
+change-view (change.ReleasePair l p) rows =
+    taken-keep (rowAfter (change.ReleasePair l p)) (stays l (some p)) (λ r es. emptied-shown l (some p) r (eqb (r .leg) l || eqb (r .leg) p) refl es) rows
 
 enter-shown : (new : Row) (c : Call) (rows : List Row) → new .standing ≡ Served c → full rows ≡ false → Perm (taken (enter new rows)) (record { leg = new .leg; connection = WithUser c } ∷ taken rows)
 enter-shown new c [] h k = absurd (true-not-false refl k)
@@ -145,77 +144,55 @@ full-is (r ∷ rs) = go (r .standing) (full-is rs)
 
 -- ---- what is entered is in range, and there is room for it
 
-abbrev pub Fine : Bool → Decision → Type 0
-Fine w (Refuse c) = Unit {0}
-Fine w (OpenLeg l c n) = (w ≡ false) × (validNumber n ≡ true)
-Fine w (SetState r s) = Unit {0}
-Fine w (SetAuxiliary r a) = Unit {0}
-Fine w (ReleaseLeg e) = Unit {0}
-Fine w (ServeCall p s) = Unit {0}
-Fine w (EndAlerting l p) = Unit {0}
+abbrev pub Fine : Bool → Option BoardChange → Type 0
+Fine w none = Unit {0}
+Fine w (some (Enter p n)) = (w ≡ false) × (validNumber n ≡ true)
+Fine w (some (Apply c)) = Unit {0}
 
-fine-by : {opt : Options} {z : ℤ} {w : Bool} {es : List Entry} {q : Request} {d : Decision} → inRange q ≡ true → Decided opt z w es q d → Fine w d
+fine-by : {opt : Options} {z : ℤ} {w : Bool} {es : List Entry} {q : Request} {d : Decision} → inRange q ≡ true → Decided opt z w es q d → Fine w (changeOf d)
 fine-by h (refuses c) = tt
+fine-by h (changes-nothing f g k) = tt
 fine-by h (opens-leg {r = r} e f g) = (g, right (validReference r) _ h)
 fine-by h (sets-state e k) = tt
 fine-by h (sets-auxiliary e k) = tt
 fine-by h (releases m k) = tt
-fine-by h (serves m v) = tt
+fine-by h (assigns-link-id i m e k) = tt
+fine-by h (transfers i m n k) = tt
 fine-by h ends-alerting = tt
 
-pub fine : (opt : Options) (z : ℤ) (w : Bool) (es : List Entry) (q : Request) → inRange q ≡ true → Fine w (decide opt z w es q)
+pub fine : (opt : Options) (z : ℤ) (w : Bool) (es : List Entry) (q : Request) → inRange q ≡ true → Fine w (changeOf (decide opt z w es q))
 fine opt z w es q h = fine-by h (decided opt z w es q)
 
--- ---- the rows after a decision
+-- ---- the rows after a change
 
-service-view : (p : Party) (v : Service) (rows : List Row) → taken (serviceRows p v rows) ≡ serviceEntries p v (taken rows)
-unfolding changedRows rowAfter
-service-view p Silent rows = refl
-service-view p (Respond c) rows = refl
-service-view p (AssignLinkId z i) rows = taken-map _ _ (λ r. call-shown (p .call .reference) (withLinkId z) (r .leg) (r .standing)) rows
-service-view p (Transfer x y i) rows = taken-map _ _ (λ r. join-shown (x .leg) (y .leg) (r .leg) (r .standing)) rows
+pub view : (c : Option BoardChange) (rows : List Row) → Fine (full rows) c → Perm (taken (rowsAfter c rows)) (entriesAfter c (taken rows))
+unfolding rowsAfter entriesAfter
+view none rows h = p-refl (taken rows)
+view (some (Enter p n)) rows h = enter-shown (record { leg = p .leg; number = n; standing = Served (p .call) }) (p .call) rows refl (h .0)
+view (some (Apply c)) rows h = p-of (change-view c rows)
 
-pub view : (d : Decision) (rows : List Row) → Fine (full rows) d → Perm (taken (rowsAfter d rows)) (entriesAfter d (taken rows))
-unfolding rowsAfter entriesAfter changedRows rowAfter
-view (Refuse c) rows h = p-refl (taken rows)
-view (OpenLeg l c n) rows h = enter-shown (record { leg = l; number = n; standing = Served c }) c rows refl (h .0)
-view (SetState r s) rows h = p-of (taken-map _ _ (λ x. call-shown (record { 0 = r }) (withState s) (x .leg) (x .standing)) rows)
-view (SetAuxiliary r a) rows h = p-of (taken-map _ _ (λ x. call-shown (record { 0 = r }) (withAuxiliary a) (x .leg) (x .standing)) rows)
-view (ReleaseLeg e) rows h = p-of (release-view (e .leg) (e .connection) rows)
-view (ServeCall p v) rows h = p-of (service-view p v rows)
-view (EndAlerting l p) rows h = p-of (taken-map _ _ (λ x. stop-shown l (x .leg) (x .standing)) rows)
+change-perm : (c : Change) {l m : List Entry} → Perm l m → Perm (changedEntries c l) (changedEntries c m)
+change-perm (change.SetState r s) h = map-perm (mapConnection (changeCall (r .0) (withState s))) h
+change-perm (change.SetAuxiliary r a) h = map-perm (mapConnection (changeCall (r .0) (withAuxiliary a))) h
+change-perm (change.SetLinkId r z) h = map-perm (mapConnection (changeCall (r .0) (withLinkId z))) h
+change-perm (change.Join a b) h = map-perm (mapConnection (joinLegs a b)) h
+change-perm (change.EndAlerting l) h = map-perm (mapConnection (endAlerting l)) h
+change-perm (change.Release l) h = keep-perm (stays l none) h
+change-perm (change.ReleasePair l p) h = keep-perm (stays l (some p)) h
 
-service-perm : (p : Party) (v : Service) {l m : List Entry} → Perm l m → Perm (serviceEntries p v l) (serviceEntries p v m)
-service-perm p Silent h = h
-service-perm p (Respond c) h = h
-service-perm p (AssignLinkId z i) h = map-perm (mapConnection (changeCall (p .call .reference .0) (withLinkId z))) h
-service-perm p (Transfer x y i) h = map-perm (mapConnection (joinLegs (x .leg) (y .leg))) h
-
-pub after-perm : (d : Decision) {l m : List Entry} → Perm l m → Perm (entriesAfter d l) (entriesAfter d m)
+pub after-perm : (c : Option BoardChange) {l m : List Entry} → Perm l m → Perm (entriesAfter c l) (entriesAfter c m)
 unfolding entriesAfter
-after-perm (Refuse c) h = h
-after-perm (OpenLeg l c n) h = p-skip h
-after-perm (SetState r s) h = map-perm (mapConnection (changeCall r (withState s))) h
-after-perm (SetAuxiliary r a) h = map-perm (mapConnection (changeCall r (withAuxiliary a))) h
-after-perm (ReleaseLeg e) h = keep-perm (stays e) h
-after-perm (ServeCall p v) h = service-perm p v h
-after-perm (EndAlerting l p) h = map-perm (mapConnection (endAlerting l)) h
+after-perm none h = h
+after-perm (some (Enter p n)) h = p-skip h
+after-perm (some (Apply c)) h = change-perm c h
 
-service-candidate : (v : Service) (z : LinkId) → serviceCandidate v z .0 ≡ serviceMoves v (z .0)
-service-candidate Silent z = refl
-service-candidate (Respond c) z = refl
-service-candidate (AssignLinkId y i) z = refl
-service-candidate (Transfer p q i) z = refl
-
-pub candidate-same : (d : Decision) (z : LinkId) → candidateAfter d z .0 ≡ candidateMoves d (z .0)
+pub candidate-same : (c : Option BoardChange) (z : LinkId) → candidateAfter c z .0 ≡ candidateMoves c (z .0)
 unfolding candidateAfter candidateMoves
-candidate-same (Refuse c) z = refl
-candidate-same (OpenLeg l c n) z = refl
-candidate-same (SetState r s) z = refl
-candidate-same (SetAuxiliary r a) z = refl
-candidate-same (ReleaseLeg e) z = refl
-candidate-same (ServeCall p v) z = service-candidate v z
-candidate-same (EndAlerting l p) z = refl
+candidate-same c z = go (newLinkIdOf c)
+  where
+    go : (o : Option LinkId) → candidateBy o z .0 ≡ movedBy o (z .0)
+    go none = refl
+    go (some l) = refl
 
 -- ---- 64 rows stay 64 rows
 
@@ -227,22 +204,11 @@ enter-length new (r ∷ rs) = go (occupied (r .standing)) (enter-length new rs)
     go true h = ap suc h
     go false h = refl
 
-service-length : (p : Party) (v : Service) (rows : List Row) → length (serviceRows p v rows) ≡ length rows
-unfolding changedRows
-service-length p Silent rows = refl
-service-length p (Respond c) rows = refl
-service-length p (AssignLinkId z i) rows = length-map rows _
-service-length p (Transfer x y i) rows = length-map rows _
-
-pub rows-length : (d : Decision) (rows : List Row) → length (rowsAfter d rows) ≡ length rows
+pub rows-length : (c : Option BoardChange) (rows : List Row) → length (rowsAfter c rows) ≡ length rows
 unfolding rowsAfter changedRows
-rows-length (Refuse c) rows = refl
-rows-length (OpenLeg l c n) rows = enter-length _ rows
-rows-length (SetState r s) rows = length-map rows _
-rows-length (SetAuxiliary r a) rows = length-map rows _
-rows-length (ReleaseLeg e) rows = length-map rows _
-rows-length (ServeCall p v) rows = service-length p v rows
-rows-length (EndAlerting l p) rows = length-map rows _
+rows-length none rows = refl
+rows-length (some (Enter p n)) rows = enter-length _ rows
+rows-length (some (Apply c)) rows = length-map rows _
 
 -- ---- the rows' own fields stay right
 
@@ -283,11 +249,6 @@ emptied-right g rows k = all-map validRow (λ (r : Row). emptiedIf (g r) r) rows
     go r true h = empty-right
     go r false h = h
 
-release-right : (n : ℕ) (t : Connection) (rows : List Row) → all validRow rows ≡ true → all validRow (changedRows (releaseOf n t) rows) ≡ true
-unfolding changedRows rowAfter
-release-right n (WithUser c) rows k = emptied-right (λ (r : Row). eqb (r .leg) n) rows k
-release-right n (WithPartner p a) rows k = emptied-right (λ (r : Row). eqb (r .leg) n || eqb (r .leg) p) rows k
-
 enter-right : (new : Row) (rows : List Row) → validRow new ≡ true → all validRow rows ≡ true → all validRow (enter new rows) ≡ true
 enter-right new [] h k = refl
 enter-right new (r ∷ rs) h k = go (occupied (r .standing)) (enter-right new rs h (right (validRow r) _ k))
@@ -296,19 +257,18 @@ enter-right new (r ∷ rs) h k = go (occupied (r .standing)) (enter-right new rs
     go true w = both (left (validRow r) _ k) w
     go false w = both h (right (validRow r) _ k)
 
-service-right : (p : Party) (v : Service) (rows : List Row) → all validRow rows ≡ true → all validRow (serviceRows p v rows) ≡ true
+change-right : (c : Change) (rows : List Row) → all validRow rows ≡ true → all validRow (changedRows c rows) ≡ true
 unfolding changedRows rowAfter
-service-right p Silent rows k = k
-service-right p (Respond c) rows k = k
-service-right p (AssignLinkId z i) rows k = restand-right _ (call-right (p .call .reference) (withLinkId z)) rows k
-service-right p (Transfer x y i) rows k = restand-right _ (join-right (x .leg) (y .leg)) rows k
+change-right (change.SetState r s) rows k = restand-right _ (call-right r (withState s)) rows k
+change-right (change.SetAuxiliary r a) rows k = restand-right _ (call-right r (withAuxiliary a)) rows k
+change-right (change.SetLinkId r z) rows k = restand-right _ (call-right r (withLinkId z)) rows k
+change-right (change.Join a b) rows k = restand-right _ (join-right a b) rows k
+change-right (change.EndAlerting l) rows k = restand-right _ (stop-right l) rows k
+change-right (change.Release l) rows k = emptied-right (λ (r : Row). eqb (r .leg) l) rows k
+change-right (change.ReleasePair l p) rows k = emptied-right (λ (r : Row). eqb (r .leg) l || eqb (r .leg) p) rows k
 
-pub rows-right : (w : Bool) (d : Decision) (rows : List Row) → Fine w d → all validRow rows ≡ true → all validRow (rowsAfter d rows) ≡ true
-unfolding rowsAfter validRow changedRows rowAfter
-rows-right w (Refuse c) rows h k = k
-rows-right w (OpenLeg l c n) rows h k = enter-right (record { leg = l; number = n; standing = Served c }) rows (h .1) k
-rows-right w (SetState r s) rows h k = restand-right _ (call-right (record { 0 = r }) (withState s)) rows k
-rows-right w (SetAuxiliary r a) rows h k = restand-right _ (call-right (record { 0 = r }) (withAuxiliary a)) rows k
-rows-right w (ReleaseLeg e) rows h k = release-right (e .leg) (e .connection) rows k
-rows-right w (ServeCall p v) rows h k = service-right p v rows k
-rows-right w (EndAlerting l p) rows h k = restand-right _ (stop-right l) rows k
+pub rows-right : (w : Bool) (c : Option BoardChange) (rows : List Row) → Fine w c → all validRow rows ≡ true → all validRow (rowsAfter c rows) ≡ true
+unfolding rowsAfter validRow
+rows-right w none rows h k = k
+rows-right w (some (Enter p n)) rows h k = enter-right (record { leg = p .leg; number = n; standing = Served (p .call) }) rows (h .1) k
+rows-right w (some (Apply c)) rows h k = change-right c rows k

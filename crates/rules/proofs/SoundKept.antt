@@ -15,6 +15,7 @@ use Rattle.events.specs.declared.Refusal.the-variants.{BufferTooSmall, UnsoundB
 use Rattle.rules.proofs.Agreement.{Together, sound-together, next}
 use Rattle.rules.proofs.Rows.{rows-length}
 use Rattle.rules.specs.Book.{Book}
+use Rattle.rules.specs.Checks.{changeOf}
 use Rattle.events.specs.Refusals.{refusalNumber}
 use Rattle.rules.specs.Replies.{DropOrder}
 use Rattle.rules.specs.Step.{Outcome, boardAfter, decision, refused, step, stepTested, done}
@@ -53,7 +54,7 @@ module _ (order : DropOrder) (b : Board) (os : List ℕ) (room : ℕ) where
     where
       go : (x y : Bool) → length ((cond {A = Outcome} x (refused (refusalNumber BufferTooSmall) b) (cond y (done order b (decision b os)) (refused (refusalNumber UnsoundBoard) b))) .board .rows) ≡ length (b .rows)
       go true y = refl
-      go false true = rows-length (decision b os) (b .rows)
+      go false true = rows-length (changeOf (decision b os)) (b .rows)
       go false false = refl
 
   pub sound-kept : length (b .rows) ≡ 64 → sound (step order b os room .board) ≡ sound b

@@ -8,22 +8,23 @@ use mathlib.Core.Option.{Option, some, none}
 use lib.Dec.{eqb, T, ltb}
 use Rattle.board.specs.declared.Connection.the-variants.{WithUser}
 use Rattle.board.specs.Entries.{hasLeg}
-use Rattle.board.specs.Making.{options, fresh}
+use Rattle.board.specs.Making.{options, emptyBoard, unmade, fresh}
 use Rattle.board.specs.Soundness.{validOptions, sound}
 use Rattle.board.specs.declared.Board.{Board}
 use Rattle.board.specs.declared.Call.{Call}
-use Rattle.rules.proofs.Agreement.{Together, next, played-together, begun, same-returns, sound-together}
+use Rattle.board.specs.declared.Made.{Made}
+use Rattle.board.specs.declared.Options.{Options}
+use Rattle.rules.proofs.Agreement.{Together, next, played-together, empty-together, same-returns, sound-together}
 use Rattle.rules.proofs.Errors.{untouched-step, unharmed, octets-error}
 use Rattle.rules.proofs.Partner.{has-row, Shape, partnerOf, shaped-list, bookAt-append, opened-next, shaped-next, call-stays, joined-stays, joins-some, still-there, alive-stays, shape-there, partner-rows, call-row}
 use Rattle.rules.proofs.Presence.{nil-is-no-split, LivesIn, lives, opensAt, endsAt, lives-is, lives-from, Unended, seen-next, together-sound, lives-to}
 use Rattle.rules.specs.Book.{Book, bookAfter, entriesAfter, candidateMoves, bookStep, bookDecision, freshBook, emptyBook}
-use Rattle.rules.specs.Checks.{Decision, returnedBy, Refuse, OpenLeg, SetState, SetAuxiliary, ReleaseLeg, ServeCall, EndAlerting, opened}
+use Rattle.rules.specs.Checks.{Decision, returnedBy, changeOf, Refuse, Accept}
 use Rattle.events.specs.Refusals.{refusalNumber}
 use Rattle.events.specs.EventRecords.{request}
-use Rattle.rules.specs.History.{history, booked, Event, accepts, stepped, bookAt, boardAt, bookReturns, accepted, opens, ends, Lives, endsLeg, Agree, transferOf, joinsTo, onBoard, Partners, HasRow, Demand3}
+use Rattle.rules.specs.History.{history, booked, Event, accepts, stepped, bookAt, boardAt, bookReturns, accepted, opens, ends, Lives, endsLeg, Agree, transferOf, joinedBy, onBoard, Partners, HasRow, WholeHistory, Demand3Of, Demand3}
 use Rattle.rules.specs.Replies.{octets, DropOrder}
 use Rattle.rules.specs.Step.{refused, step, stepTested, Outcome, done, decision}
-use Rattle.events.specs.declared.Refusal.the-variants.{BufferTooSmall, UnsoundBoard}
 use Rattle.octets.proofs.Lists.{true-not-false, both, left, right, from-true, is-true, mem-perm, p-sym, length-perm, or-left, any-perm, is-not}
 use Rattle.octets.specs.Lists.{all, any}
 use Rattle.events.specs.declared.Refusal.the-variants as refusal
@@ -33,12 +34,7 @@ use Rattle.events.specs.declared.Refusal.the-variants as refusal
 refused-after : (d : Decision) (k : Book) → eqb (returnedBy d) 0 ≡ false → bookAfter d k ≡ k
 unfolding bookAfter entriesAfter candidateMoves
 refused-after (Refuse c) k h = refl
-refused-after (OpenLeg l c n) k h = absurd (true-not-false refl h)
-refused-after (SetState r s) k h = absurd (true-not-false refl h)
-refused-after (SetAuxiliary r a) k h = absurd (true-not-false refl h)
-refused-after (ReleaseLeg e) k h = absurd (true-not-false refl h)
-refused-after (ServeCall p v) k h = absurd (true-not-false refl h)
-refused-after (EndAlerting l p) k h = absurd (true-not-false refl h)
+refused-after (Accept c w) k h = absurd (true-not-false refl h)
 
 refused-booked : (k : Book) (e : Event) → accepts k e ≡ false → booked k e ≡ k
 unfolding bookStep
@@ -142,163 +138,161 @@ agree {b} {k} t = record {
   no-other = λ e m. mem-perm (t .order) m;
 }
 
-fresh-entries : (s a : ℕ) → freshBook s a .entries ≡ []
-unfolding freshBook
-fresh-entries s a = go (validOptions (options s a))
-  where
-    go : (x : Bool) → (cond {A = Book} x (emptyBook (options s a)) (emptyBook (options 0 0))) .entries ≡ []
-    go true = refl
-    go false = refl
-
-transfer-is : (k : Book) (e : Event) (l m : ℕ) → transferOf k e l ≡ some m → joinsTo l (bookDecision k (e .octets) (e .room)) ≡ some m
+transfer-is : (k : Book) (e : Event) (l m : ℕ) → transferOf k e l ≡ some m → joinedBy l (changeOf (bookDecision k (e .octets) (e .room))) ≡ some m
 unfolding transferOf
 transfer-is k e l m h = h
 
--- a leg that lives, and what transfers made of it
-module _ (s a : ℕ) where
-  t-at : (list : List Event) → Together (boardAt (fresh s a .board) list) (bookAt (freshBook s a) list)
-  t-at list = played-together (begun s a) list
+-- a board and its book that begin together, with no entry: a leg that lives, and what transfers made of it
+module _ (b₀ : Board) (k₀ : Book) (t₀ : Together b₀ k₀) (no-entries : k₀ .entries ≡ []) where
+  t-at : (list : List Event) → Together (boardAt b₀ list) (bookAt k₀ list)
+  t-at list = played-together t₀ list
 
-  empty : (l : ℕ) → any (hasLeg l) (freshBook s a .entries) ≡ false
-  empty l = ap (any (hasLeg l)) (fresh-entries s a)
+  empty : (l : ℕ) → any (hasLeg l) (k₀ .entries) ≡ false
+  empty l = ap (any (hasLeg l)) (no-entries)
 
   -- the leg's entry is as the fold over the list says
-  shape-at : (list : List Event) (l : ℕ) → any (hasLeg l) (bookAt (freshBook s a) list .entries) ≡ true → Shape (bookAt (freshBook s a) list .entries) l (partnerOf (freshBook s a) none list l)
-  shape-at list l = shaped-list (freshBook s a) list l none (λ k. absurd (true-not-false k (empty l)))
+  shape-at : (list : List Event) (l : ℕ) → any (hasLeg l) (bookAt k₀ list .entries) ≡ true → Shape (bookAt k₀ list .entries) l (partnerOf k₀ none list l)
+  shape-at list l = shaped-list k₀ list l none (λ k. absurd (true-not-false k (empty l)))
 
-  there : (list : List Event) (l : ℕ) → LivesIn (freshBook s a) list l → any (hasLeg l) (bookAt (freshBook s a) list .entries) ≡ true
-  there list l v = lives-is (begun s a) false list l (empty l) ∙ lives-from (freshBook s a) false list (v .before) (v .opener) (v .since) l (v .place) (v .opened) (v .not-ended)
+  there : (list : List Event) (l : ℕ) → LivesIn k₀ list l → any (hasLeg l) (bookAt k₀ list .entries) ≡ true
+  there list l v = lives-is t₀ false list l (empty l) ∙ lives-from k₀ false list (v .before) (v .opener) (v .since) l (v .place) (v .opened) (v .not-ended)
 
-  module _ (before : List Event) (opener : Event) (since : List Event) (l : ℕ) (opened-here : T (opensAt (bookAt (freshBook s a) before) opener l))
-      (unended : (mid rest : List Event) (e : Event) → since ≡ mid ++ (e ∷ rest) → T (not (endsAt (bookAt (freshBook s a) (before ++ (opener ∷ mid))) e l))) where
-    t₁ : Together (stepped (boardAt (fresh s a .board) before) opener .board) (booked (bookAt (freshBook s a) before) opener)
+  module _ (before : List Event) (opener : Event) (since : List Event) (l : ℕ) (opened-here : T (opensAt (bookAt k₀ before) opener l))
+      (unended : (mid rest : List Event) (e : Event) → since ≡ mid ++ (e ∷ rest) → T (not (endsAt (bookAt k₀ (before ++ (opener ∷ mid))) e l))) where
+    t₁ : Together (stepped (boardAt b₀ before) opener .board) (booked (bookAt k₀ before) opener)
     t₁ = next-booked (t-at before) opener
 
-    at-mid : (mid : List Event) → bookAt (freshBook s a) (before ++ (opener ∷ mid)) ≡ bookAt (booked (bookAt (freshBook s a) before) opener) mid
+    at-mid : (mid : List Event) → bookAt k₀ (before ++ (opener ∷ mid)) ≡ bookAt (booked (bookAt k₀ before) opener) mid
     unfolding bookAt
-    at-mid mid = bookAt-append (freshBook s a) before (opener ∷ mid)
+    at-mid mid = bookAt-append k₀ before (opener ∷ mid)
 
-    split-at : (mid : List Event) (e : Event) (rest : List Event) → bookAt (booked (bookAt (freshBook s a) before) opener) (mid ++ (e ∷ rest)) ≡ bookAt (booked (bookAt (booked (bookAt (freshBook s a) before) opener) mid) e) rest
+    split-at : (mid : List Event) (e : Event) (rest : List Event) → bookAt (booked (bookAt k₀ before) opener) (mid ++ (e ∷ rest)) ≡ bookAt (booked (bookAt (booked (bookAt k₀ before) opener) mid) e) rest
     unfolding bookAt
-    split-at mid e rest = bookAt-append (booked (bookAt (freshBook s a) before) opener) mid (e ∷ rest)
+    split-at mid e rest = bookAt-append (booked (bookAt k₀ before) opener) mid (e ∷ rest)
 
-    unended-since : Unended (booked (bookAt (freshBook s a) before) opener) since l
+    unended-since : Unended (booked (bookAt k₀ before) opener) since l
     unended-since mid rest e p = subst (λ (k : Book). T (not (endsAt k e l))) (at-mid mid) (unended mid rest e p)
 
-    first-shape : Shape (booked (bookAt (freshBook s a) before) opener .entries) l none
+    first-shape : Shape (booked (bookAt k₀ before) opener .entries) l none
     first-shape =
-        subst (λ (o : Option ℕ). Shape (booked (bookAt (freshBook s a) before) opener .entries) l o)
-        (opened-next (bookAt (freshBook s a) before) opener l (partnerOf (freshBook s a) none before l) (is-true _ opened-here))
-        (shaped-next (bookAt (freshBook s a) before) opener l (partnerOf (freshBook s a) none before l) (shape-at before l)
-        (seen-next (bookAt (freshBook s a) before) (together-sound (t-at before)) opener l ∙ or-left (opensAt (bookAt (freshBook s a) before) opener l) _ (is-true _ opened-here)))
+        subst (λ (o : Option ℕ). Shape (booked (bookAt k₀ before) opener .entries) l o)
+        (opened-next (bookAt k₀ before) opener l (partnerOf k₀ none before l) (is-true _ opened-here))
+        (shaped-next (bookAt k₀ before) opener l (partnerOf k₀ none before l) (shape-at before l)
+        (seen-next (bookAt k₀ before) (together-sound (t-at before)) opener l ∙ or-left (opensAt (bookAt k₀ before) opener l) _ (is-true _ opened-here)))
 
     -- no transfer since: one call
-    still-call : ((mid rest : List Event) (e : Event) → since ≡ mid ++ (e ∷ rest) → transferOf (bookAt (freshBook s a) (before ++ (opener ∷ mid))) e l ≡ none) → Shape (bookAt (freshBook s a) (before ++ (opener ∷ since)) .entries) l none
+    still-call : ((mid rest : List Event) (e : Event) → since ≡ mid ++ (e ∷ rest) → transferOf (bookAt k₀ (before ++ (opener ∷ mid))) e l ≡ none) → Shape (bookAt k₀ (before ++ (opener ∷ since)) .entries) l none
     still-call g =
         subst⁻¹ (λ (k : Book). Shape (k .entries) l none) (at-mid since)
         (call-stays t₁ since l first-shape unended-since (λ mid rest e p. subst (λ (k : Book). transferOf k e l ≡ none) (at-mid mid) (g mid rest e p)))
 
     -- a transfer since: joined to that party
-    joined-since : (mid rest : List Event) (e : Event) (m : ℕ) → since ≡ mid ++ (e ∷ rest) → transferOf (bookAt (freshBook s a) (before ++ (opener ∷ mid))) e l ≡ some m → Shape (bookAt (freshBook s a) (before ++ (opener ∷ since)) .entries) l (some m)
+    joined-since : (mid rest : List Event) (e : Event) (m : ℕ) → since ≡ mid ++ (e ∷ rest) → transferOf (bookAt k₀ (before ++ (opener ∷ mid))) e l ≡ some m → Shape (bookAt k₀ (before ++ (opener ∷ since)) .entries) l (some m)
     joined-since mid rest e m p h =
-        subst⁻¹ (λ (k : Book). Shape (k .entries) l (some m)) (at-mid since ∙ ap (bookAt k₀) p ∙ split-at mid e rest)
+        subst⁻¹ (λ (k : Book). Shape (k .entries) l (some m)) (at-mid since ∙ ap (bookAt k₁) p ∙ split-at mid e rest)
         (joined-stays t₂ rest l m
-        (subst (λ (o : Option ℕ). Shape (booked (bookAt k₀ mid) e .entries) l o)
-        (joins-some l m (partnerOf k₀ none mid l) (bookDecision (bookAt k₀ mid) (e .octets) (e .room)) (transfer-is (bookAt k₀ mid) e l m (subst (λ (k : Book). transferOf k e l ≡ some m) (at-mid mid) h)))
-        (shaped-next (bookAt k₀ mid) e l (partnerOf k₀ none mid l) (shaped-list k₀ mid l none (λ _. first-shape)) (still-there (played-together t₁ mid) e l alive (unended-since mid rest e p))))
+        (subst (λ (o : Option ℕ). Shape (booked (bookAt k₁ mid) e .entries) l o)
+        (joins-some l m (partnerOf k₁ none mid l) (changeOf (bookDecision (bookAt k₁ mid) (e .octets) (e .room))) (transfer-is (bookAt k₁ mid) e l m (subst (λ (k : Book). transferOf k e l ≡ some m) (at-mid mid) h)))
+        (shaped-next (bookAt k₁ mid) e l (partnerOf k₁ none mid l) (shaped-list k₁ mid l none (λ _. first-shape)) (still-there (played-together t₁ mid) e l alive (unended-since mid rest e p))))
         ended-not)
       where
-        k₀ : Book
-        k₀ = booked (bookAt (freshBook s a) before) opener
+        k₁ : Book
+        k₁ = booked (bookAt k₀ before) opener
 
-        alive : any (hasLeg l) (bookAt (booked (bookAt (freshBook s a) before) opener) mid .entries) ≡ true
+        alive : any (hasLeg l) (bookAt (booked (bookAt k₀ before) opener) mid .entries) ≡ true
         alive =
-            alive-stays t₁ mid l (shape-there (booked (bookAt (freshBook s a) before) opener .entries) l none first-shape)
+            alive-stays t₁ mid l (shape-there (booked (bookAt k₀ before) opener .entries) l none first-shape)
             (λ mid₁ rest₁ x q. unended-since mid₁ (rest₁ ++ (e ∷ rest)) x (p ∙ ap (λ (r : List Event). r ++ (e ∷ rest)) q ∙ append-assoc mid₁ (x ∷ rest₁) (e ∷ rest)))
 
-        t₂ : Together (stepped (boardAt (stepped (boardAt (fresh s a .board) before) opener .board) mid) e .board) (booked (bookAt (booked (bookAt (freshBook s a) before) opener) mid) e)
+        t₂ : Together (stepped (boardAt (stepped (boardAt b₀ before) opener .board) mid) e .board) (booked (bookAt (booked (bookAt k₀ before) opener) mid) e)
         t₂ = next-booked (played-together t₁ mid) e
 
-        ended-not : Unended (booked (bookAt (booked (bookAt (freshBook s a) before) opener) mid) e) rest l
+        ended-not : Unended (booked (bookAt (booked (bookAt k₀ before) opener) mid) e) rest l
         ended-not mid₂ rest₂ x q =
             subst (λ (k : Book). T (not (endsAt k x l))) (split-at mid e mid₂)
             (unended-since (mid ++ (e ∷ mid₂)) rest₂ x (p ∙ ap (λ (r : List Event). mid ++ (e ∷ r)) q ∙ sym (append-assoc mid (e ∷ mid₂) (x ∷ rest₂))))
 
   -- presence and partner, of a list that may hold refused events
-  on-board : (list : List Event) (l : ℕ) → T (onBoard (boardAt (fresh s a .board) list) l) ↔ LivesIn (freshBook s a) list l
+  on-board : (list : List Event) (l : ℕ) → T (onBoard (boardAt b₀ list) l) ↔ LivesIn k₀ list l
   on-board list l = (to, from)
     where
-      t : Together (boardAt (fresh s a .board) list) (bookAt (freshBook s a) list)
+      t : Together (boardAt b₀ list) (bookAt k₀ list)
       t = t-at list
 
-      seen-is : onBoard (boardAt (fresh s a .board) list) l ≡ lives (freshBook s a) false list l
-      seen-is = any-perm (hasLeg l) (t .order) ∙ lives-is (begun s a) false list l (empty l)
+      seen-is : onBoard (boardAt b₀ list) l ≡ lives k₀ false list l
+      seen-is = any-perm (hasLeg l) (t .order) ∙ lives-is t₀ false list l (empty l)
 
-      to : T (onBoard (boardAt (fresh s a .board) list) l) → LivesIn (freshBook s a) list l
-      to h = go (lives-to (freshBook s a) false list l (sym seen-is ∙ is-true _ h))
+      to : T (onBoard (boardAt b₀ list) l) → LivesIn k₀ list l
+      to h = go (lives-to k₀ false list l (sym seen-is ∙ is-true _ h))
         where
-          go : ((false ≡ true) × Unended (freshBook s a) list l) ⊎ LivesIn (freshBook s a) list l → LivesIn (freshBook s a) list l
+          go : ((false ≡ true) × Unended k₀ list l) ⊎ LivesIn k₀ list l → LivesIn k₀ list l
           go (inl v) = absurd (true-not-false (v .0) refl)
           go (inr v) = v
 
-      from : LivesIn (freshBook s a) list l → T (onBoard (boardAt (fresh s a .board) list) l)
+      from : LivesIn k₀ list l → T (onBoard (boardAt b₀ list) l)
       from v = from-true (any-perm (hasLeg l) (t .order) ∙ there list l v)
 
-  joined-to : (list : List Event) (l : ℕ) (v : LivesIn (freshBook s a) list l) (mid rest : List Event) (e : Event) (m : ℕ) → v .since ≡ mid ++ (e ∷ rest) →
-      transferOf (bookAt (freshBook s a) (v .before ++ (v .opener ∷ mid))) e l ≡ some m → Partners (boardAt (fresh s a .board) list) l m
+  joined-to : (list : List Event) (l : ℕ) (v : LivesIn k₀ list l) (mid rest : List Event) (e : Event) (m : ℕ) → v .since ≡ mid ++ (e ∷ rest) →
+      transferOf (bookAt k₀ (v .before ++ (v .opener ∷ mid))) e l ≡ some m → Partners (boardAt b₀ list) l m
   joined-to list l v mid rest e m p h =
       partner-rows (t-at list) l m
-      (subst⁻¹ (λ (r : List Event). Shape (bookAt (freshBook s a) r .entries) l (some m)) (v .place)
+      (subst⁻¹ (λ (r : List Event). Shape (bookAt k₀ r .entries) l (some m)) (v .place)
       (joined-since (v .before) (v .opener) (v .since) l (v .opened) (v .not-ended) mid rest e m p h))
 
-  has-call : (list : List Event) (l : ℕ) (v : LivesIn (freshBook s a) list l) →
-      ((mid rest : List Event) (e : Event) → v .since ≡ mid ++ (e ∷ rest) → transferOf (bookAt (freshBook s a) (v .before ++ (v .opener ∷ mid))) e l ≡ none) →
-      (c : Call) × HasRow (boardAt (fresh s a .board) list) l (WithUser c)
+  has-call : (list : List Event) (l : ℕ) (v : LivesIn k₀ list l) →
+      ((mid rest : List Event) (e : Event) → v .since ≡ mid ++ (e ∷ rest) → transferOf (bookAt k₀ (v .before ++ (v .opener ∷ mid))) e l ≡ none) →
+      (c : Call) × HasRow (boardAt b₀ list) l (WithUser c)
   has-call list l v g =
       call-row (t-at list) l
-      (subst⁻¹ (λ (r : List Event). Shape (bookAt (freshBook s a) r .entries) l none) (v .place)
+      (subst⁻¹ (λ (r : List Event). Shape (bookAt k₀ r .entries) l none) (v .place)
       (still-call (v .before) (v .opener) (v .since) l (v .opened) (v .not-ended) g))
 
--- ---- the theorem
+  -- ---- the theorem
+
+  from-empty : (list : List Event) → WholeHistory b₀ k₀ list
+  unfolding of-lives
+  from-empty list = record {
+    refusals = same-returns t₀ list;
+    history-is = ap (λ (ns : List ℕ). accepted ns list) (same-returns t₀ list) ∙ accepted-is k₀ list;
+    history-accepted = history-accepted k₀ list;
+    history-book = history-book k₀ list;
+    history-board = same;
+    agree = agree t;
+    presence = λ l. (λ h. to-lives k₀ hs l ok (on-board hs l .0 (subst⁻¹ (λ (c : Board). T (onBoard c l)) same h)), λ v. subst (λ (c : Board). T (onBoard c l)) same (on-board hs l .1 (of-lives k₀ hs l ok v)));
+    partner = λ l v. (
+      λ mid rest e p m h. subst (λ (c : Board). Partners c l m) same (joined-to hs l (of-lives k₀ hs l ok v) mid rest e m p h),
+      λ g. subst (λ (c : Board). (d : Call) × HasRow c l (WithUser d)) same (has-call hs l (of-lives k₀ hs l ok v) g),
+    );
+    link-ids = from-true (t .entries-are .lids);
+    errors = λ before after e p h. unharmed (boardAt b₀ before) e (is-true _ h);
+    errors-octets = λ before after e p h. unharmed (boardAt b₀ before) e (octets-error _ (is-true _ h));
+    untouched = λ before after e p h. untouched-step (boardAt b₀ before) e (is-not (is-true _ h));
+    sound-board = from-true (sound-together t);
+  }
+    where
+      hs : List Event
+      hs = history k₀ list
+
+      ok : Accepted k₀ (history k₀ list)
+      ok = history-accepted k₀ list
+
+      same : boardAt b₀ (history k₀ list) ≡ boardAt b₀ list
+      same = history-board t₀ list
+
+      t : Together (boardAt b₀ list) (bookAt k₀ list)
+      t = t-at list
+
+pub whole-history-of : (o : Options) → Demand3Of o
+whole-history-of o v list = from-empty (emptyBoard o) (emptyBook o) (empty-together o (is-true _ v)) refl list
 
 pub whole-history : Demand3
-unfolding of-lives
-whole-history s a list = record {
-  refusals = same-returns (begun s a) list;
-  history-is = ap (λ (ns : List ℕ). accepted ns list) (same-returns (begun s a) list) ∙ accepted-is k list;
-  history-accepted = history-accepted k list;
-  history-book = history-book k list;
-  history-board = same;
-  agree = agree t;
-  presence = λ l. (λ h. to-lives k hs l ok (on-board s a hs l .0 (subst⁻¹ (λ (c : Board). T (onBoard c l)) same h)), λ v. subst (λ (c : Board). T (onBoard c l)) same (on-board s a hs l .1 (of-lives k hs l ok v)));
-  partner = λ l v. (
-    λ mid rest e p m h. subst (λ (c : Board). Partners c l m) same (joined-to s a hs l (of-lives k hs l ok v) mid rest e m p h),
-    λ g. subst (λ (c : Board). (d : Call) × HasRow c l (WithUser d)) same (has-call s a hs l (of-lives k hs l ok v) g),
-  );
-  link-ids = from-true (t .entries-are .lids);
-  errors = λ before after e p h. unharmed (boardAt b before) e (is-true _ h);
-  errors-octets = λ before after e p h. unharmed (boardAt b before) e (octets-error _ (is-true _ h));
-  untouched = λ before after e p h. untouched-step (boardAt b before) e (is-not (is-true _ h));
-  sound-board = from-true (sound-together t);
-}
+unfolding fresh freshBook
+whole-history s a list = go (validOptions (options s a)) refl
   where
-    b : Board
-    b = fresh s a .board
-
-    k : Book
-    k = freshBook s a
-
-    hs : List Event
-    hs = history (freshBook s a) list
-
-    ok : Accepted (freshBook s a) (history (freshBook s a) list)
-    ok = history-accepted (freshBook s a) list
-
-    same : boardAt (fresh s a .board) (history (freshBook s a) list) ≡ boardAt (fresh s a .board) list
-    same = history-board (begun s a) list
-
-    t : Together (boardAt (fresh s a .board) list) (bookAt (freshBook s a) list)
-    t = t-at s a list
+    go : (x : Bool) → validOptions (options s a) ≡ x →
+        WholeHistory ((cond {A = Made} x (record { returned = 0; board = emptyBoard (options s a) }) unmade) .board) (cond {A = Book} x (emptyBook (options s a)) (emptyBook (options 0 0))) list
+    go true h = whole-history-of (options s a) (from-true h) list
+    go false h = whole-history-of (options 0 0) tt list
 
 -- the order of the Drops changes neither the answer nor the board
 pub any-order : (o p : DropOrder) (b : Board) (os : List ℕ) (room : ℕ) → (step o b os room .returned ≡ step p b os room .returned) × (step o b os room .board ≡ step p b os room .board)

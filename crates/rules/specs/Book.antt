@@ -3,9 +3,11 @@
 use Prim.Native.Nat.{ℕ}
 use mathlib.Core.Bool.{Bool, true, false, _&&_, _||_, not, cond}
 use mathlib.Core.List.{List, [], _∷_, map}
+use mathlib.Core.Option.{Option, none, some}
 use lib.Dec.{eqb, leb, ltb}
 use lib.IntN.{ℤ, pos}
 use lib.ListN.{length}
+use Rattle.octets.specs.declared.LinkId.{LinkId}
 use Rattle.octets.specs.Lists.{keep}
 use Rattle.octets.specs.Numbers.{nextLinkId}
 use Rattle.board.specs.declared.Call.{Call}
@@ -14,15 +16,15 @@ use Rattle.board.specs.States.{delivered}
 use Rattle.board.specs.declared.Connection.{Connection}
 use Rattle.board.specs.declared.Connection.the-variants.{WithUser, WithPartner}
 use Rattle.board.specs.declared.Entry.{Entry}
-use Rattle.board.specs.declared.Party.{Party}
-use Rattle.board.specs.Entries.{isPartner}
+use Rattle.board.specs.declared.Change.{Change}
+use Rattle.board.specs.declared.Change.the-variants as change
+use Rattle.board.specs.Entries.{isNumber}
 use Rattle.board.specs.Soundness.{validOptions}
 use Rattle.board.specs.Making.{options}
 use Rattle.board.specs.Changes.{withState, withAuxiliary, withLinkId}
 use Rattle.events.specs.declared.Refusal.the-variants.{BufferTooSmall}
 use Rattle.events.specs.EventRecords.{request}
-use Rattle.rules.specs.Serving.{Service, Silent, Respond, AssignLinkId, Transfer}
-use Rattle.rules.specs.Checks.{Decision, Refuse, OpenLeg, SetState, SetAuxiliary, ReleaseLeg, ServeCall, EndAlerting, decide}
+use Rattle.rules.specs.Checks.{BoardChange, Enter, Apply, Decision, Refuse, decide, changeOf, newLinkIdOf}
 
 -- "It holds the options, a candidate, 0 at first, and entries, none at first"
 pub record Book : Type 0 where
@@ -59,42 +61,32 @@ endAlerting l n (WithUser c) = WithUser c
 endAlerting l n (WithPartner p x) = WithPartner p (x && not (eqb l n))
 
 -- "Release strikes the leg's entry and its partner's, if any."
-abbrev pub stays : Entry → Entry → Bool
-stays e f = not (eqb (f .leg) (e .leg) || isPartner (f .leg) (e .connection))
+abbrev pub stays : ℕ → Option ℕ → Entry → Bool
+stays l partner e = not (eqb (e .leg) l || isNumber (e .leg) partner)
 
 -- "a new LinkId is entered"
-abbrev pub serviceEntries : Party → Service → List Entry → List Entry
-serviceEntries p Silent es = es
-serviceEntries p (Respond a) es = es
-serviceEntries p (AssignLinkId l i) es = map (mapConnection (changeCall (p .call .reference .0) (withLinkId l))) es
-serviceEntries p (Transfer x y i) es = map (mapConnection (joinLegs (x .leg) (y .leg))) es
+abbrev pub changedEntries : Change → List Entry → List Entry
+changedEntries (change.SetState r s) es = map (mapConnection (changeCall (r .0) (withState s))) es
+changedEntries (change.SetAuxiliary r a) es = map (mapConnection (changeCall (r .0) (withAuxiliary a))) es
+changedEntries (change.SetLinkId r l) es = map (mapConnection (changeCall (r .0) (withLinkId l))) es
+changedEntries (change.Join a b) es = map (mapConnection (joinLegs a b)) es
+changedEntries (change.EndAlerting l) es = map (mapConnection (endAlerting l)) es
+changedEntries (change.Release l) es = keep (stays l none) es
+changedEntries (change.ReleasePair l p) es = keep (stays l (some p)) es
 
 -- "Open enters the leg and its call."
-unfoldable pub entriesAfter : Decision → List Entry → List Entry
-entriesAfter (Refuse c) es = es
-entriesAfter (OpenLeg l c n) es = record { leg = l; connection = WithUser c } ∷ es
-entriesAfter (SetState r s) es = map (mapConnection (changeCall r (withState s))) es
-entriesAfter (SetAuxiliary r a) es = map (mapConnection (changeCall r (withAuxiliary a))) es
-entriesAfter (ReleaseLeg e) es = keep (stays e) es
-entriesAfter (ServeCall p s) es = serviceEntries p s es
-entriesAfter (EndAlerting l p) es = map (mapConnection (endAlerting l)) es
+unfoldable pub entriesAfter : Option BoardChange → List Entry → List Entry
+entriesAfter none es = es
+entriesAfter (some (Enter p n)) es = record { leg = p .leg; connection = WithUser (p .call) } ∷ es
+entriesAfter (some (Apply c)) es = changedEntries c es
 
--- ---- "a new LinkId .. moves the candidate"
+-- "a new LinkId .. moves the candidate"
+abbrev pub movedBy : Option LinkId → ℤ → ℤ
+movedBy none z = z
+movedBy (some l) z = nextLinkId (l .0)
 
-abbrev pub serviceMoves : Service → ℤ → ℤ
-serviceMoves Silent z = z
-serviceMoves (Respond a) z = z
-serviceMoves (AssignLinkId l i) z = nextLinkId (l .0)
-serviceMoves (Transfer p q i) z = z
-
-unfoldable pub candidateMoves : Decision → ℤ → ℤ
-candidateMoves (Refuse c) z = z
-candidateMoves (OpenLeg l c n) z = z
-candidateMoves (SetState r s) z = z
-candidateMoves (SetAuxiliary r a) z = z
-candidateMoves (ReleaseLeg e) z = z
-candidateMoves (ServeCall p s) z = serviceMoves s z
-candidateMoves (EndAlerting l p) z = z
+unfoldable pub candidateMoves : Option BoardChange → ℤ → ℤ
+candidateMoves c z = movedBy (newLinkIdOf c) z
 
 -- ---- an event
 
@@ -108,7 +100,7 @@ bookDecision k os room = cond (ltb room 128) (Refuse BufferTooSmall) (bookRules 
 
 -- "All else, refused events too, changes nothing."
 unfoldable pub bookAfter : Decision → Book → Book
-bookAfter d k = record { options = k .options; candidate = candidateMoves d (k .candidate); entries = entriesAfter d (k .entries) }
+bookAfter d k = record { options = k .options; candidate = candidateMoves (changeOf d) (k .candidate); entries = entriesAfter (changeOf d) (k .entries) }
 
 unfoldable pub bookStep : Book → List ℕ → ℕ → Book
 bookStep k os room = bookAfter (bookDecision k os room) k

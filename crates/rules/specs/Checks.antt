@@ -6,7 +6,9 @@ use mathlib.Core.List.{List}
 use mathlib.Core.Option.{Option, none, some}
 use lib.Dec.{eqb}
 use lib.IntN.{ℤ}
+use Rattle.octets.specs.declared.LinkId.{LinkId}
 use Rattle.octets.specs.Lists.{any, find}
+use Rattle.component.specs.declared.Answer.the-variants as answer
 use Rattle.component.specs.Reading.{reading}
 use Rattle.board.specs.declared.Direction.{Direction}
 use Rattle.board.specs.declared.Direction.the-variants.{Outgoing, Incoming}
@@ -18,6 +20,8 @@ use Rattle.board.specs.declared.OptionalLinkId.the-variants.{Absent}
 use Rattle.board.specs.declared.Call.{Call}
 use Rattle.board.specs.declared.PartyNumber.{PartyNumber}
 use Rattle.board.specs.declared.Options.{Options}
+use Rattle.board.specs.declared.Change.{Change}
+use Rattle.board.specs.declared.Change.the-variants as change
 use Rattle.board.specs.States.{holdable}
 use Rattle.board.specs.declared.Connection.{Connection}
 use Rattle.board.specs.declared.Connection.the-variants.{WithUser, WithPartner}
@@ -28,21 +32,53 @@ use Rattle.events.specs.declared.Refusal.{Refusal}
 use Rattle.events.specs.declared.Refusal.the-variants as refusal
 use Rattle.events.specs.Refusals.{refusalNumber}
 use Rattle.events.specs.EventRecords.{Request, Malformed, Open, Progress, Hold, Release, Facility, Answer}
-use Rattle.rules.specs.Serving.{Service, serve}
+use Rattle.rules.specs.Serving.{Service, Silent, Respond, AssignLinkId, Transfer, serve}
+use Rattle.rules.specs.Replies.{Written, nothing, replied, transferReplies, releaseReplies, answerTold}
 
+-- what an event changes, on the board and in the book: a far party is entered, with its number,
+-- or parties that are there change
+pub data BoardChange : Type 0 where
+  Enter : Party → PartyNumber → BoardChange
+  Apply : Change → BoardChange
+
+-- an event is refused, or accepted with the change that it makes, if any, and what it writes
 pub data Decision : Type 0 where
   Refuse : Refusal → Decision
-  -- Open: a leg with its call and number
-  OpenLeg : (leg : ℕ) → Call → PartyNumber → Decision
-  -- Progress and Hold: of the call with a reference
-  SetState : (reference : ℕ) → CallState → Decision
-  SetAuxiliary : (reference : ℕ) → AuxiliaryState → Decision
-  -- Release: the entry of the leg
-  ReleaseLeg : Entry → Decision
-  -- Facility: the named call, and what the component comes to
-  ServeCall : (named : Party) → Service → Decision
-  -- Answer: the leg and its partner
-  EndAlerting : (leg partner : ℕ) → Decision
+  Accept : Option BoardChange → Written → Decision
+
+-- "Accepted events return 0"
+abbrev pub returnedBy : Decision → ℕ
+returnedBy (Refuse c) = refusalNumber c
+returnedBy (Accept c w) = 0
+
+-- "board and buffer untouched"
+abbrev pub changeOf : Decision → Option BoardChange
+changeOf (Refuse c) = none
+changeOf (Accept c w) = c
+
+-- "with a refusal that number is 0 and the buffer is untouched"
+abbrev pub writtenBy : Decision → Written
+writtenBy (Refuse c) = nothing
+writtenBy (Accept c w) = w
+
+-- accepted, and parties that are there change
+abbrev pub accept : Change → Written → Decision
+accept c w = Accept (some (Apply c)) w
+
+-- the LinkId that a change gives to a call, if it gives one
+abbrev pub assignedBy : Change → Option LinkId
+assignedBy (change.SetState r s) = none
+assignedBy (change.SetAuxiliary r a) = none
+assignedBy (change.SetLinkId r l) = some l
+assignedBy (change.Join a b) = none
+assignedBy (change.EndAlerting l) = none
+assignedBy (change.Release l) = none
+assignedBy (change.ReleasePair l p) = none
+
+abbrev pub newLinkIdOf : Option BoardChange → Option LinkId
+newLinkIdOf none = none
+newLinkIdOf (some (Enter p n)) = none
+newLinkIdOf (some (Apply c)) = assignedBy c
 
 -- "state 3 if outgoing, 7 if incoming (H)"
 abbrev pub firstState : Direction → CallState
@@ -105,54 +141,64 @@ entryAt l es = find (hasLeg l) es
 -- "9: Progress, Hold, Facility: no call with that reference"; "11: a Progress, Hold or Answer not permitted above"
 abbrev pub decideProgress : ℕ → CallState → Option Party → Decision
 decideProgress r s none = Refuse refusal.NoSuchCall
-decideProgress r s (some p) = cond (mayProgress (p .call .state) s) (SetState r s) (Refuse refusal.NotPermitted)
+decideProgress r s (some p) =
+    cond (mayProgress (p .call .state) s) (accept (change.SetState (record { 0 = r }) s) nothing) (Refuse refusal.NotPermitted)
 
 -- "in states 4 and 10"
 abbrev pub decideHold : ℕ → AuxiliaryState → Option Party → Decision
 decideHold r a none = Refuse refusal.NoSuchCall
 decideHold r a (some p) =
-    cond (holdable (p .call .state) && mayHold (p .call .auxiliary) a) (SetAuxiliary r a) (Refuse refusal.NotPermitted)
+    cond (holdable (p .call .state) && mayHold (p .call .auxiliary) a) (accept (change.SetAuxiliary (record { 0 = r }) a) nothing)
+    (Refuse refusal.NotPermitted)
+
+-- "Release empties the leg's row and, if joined, its partner's."
+abbrev pub releaseOf : ℕ → Connection → Change
+releaseOf l (WithUser c) = change.Release l
+releaseOf l (WithPartner p a) = change.ReleasePair l p
 
 -- "10: Release, Answer: no such leg"
 abbrev pub decideRelease : Option Entry → Decision
 decideRelease none = Refuse refusal.NoSuchLeg
-decideRelease (some e) = ReleaseLeg e
+decideRelease (some e) = accept (releaseOf (e .leg) (e .connection)) (releaseReplies (e .connection))
 
 -- "Answer: a joined, alerting leg stops alerting."
-abbrev pub decideAlerting : ℕ → Connection → Decision
-decideAlerting l (WithUser c) = Refuse refusal.NotPermitted
-decideAlerting l (WithPartner p true) = EndAlerting l p
-decideAlerting l (WithPartner p false) = Refuse refusal.NotPermitted
+abbrev pub decideAlerting : Options → ℕ → Connection → Decision
+decideAlerting o l (WithUser c) = Refuse refusal.NotPermitted
+decideAlerting o l (WithPartner p true) = accept (change.EndAlerting l) (answerTold o l p)
+decideAlerting o l (WithPartner p false) = Refuse refusal.NotPermitted
 
-abbrev pub decideAnswer : ℕ → Option Entry → Decision
-decideAnswer l none = Refuse refusal.NoSuchLeg
-decideAnswer l (some e) = decideAlerting l (e .connection)
+abbrev pub decideAnswer : Options → ℕ → Option Entry → Decision
+decideAnswer o l none = Refuse refusal.NoSuchLeg
+decideAnswer o l (some e) = decideAlerting o l (e .connection)
+
+-- what the component of the named party comes to: nothing or an answer alone, a new LinkId for its call, or a transfer;
+-- "A LinkId lives until its call is released or transferred."
+abbrev pub serviceDecision : Options → Party → Service → Decision
+serviceDecision o p Silent = Accept none nothing
+serviceDecision o p (Respond a) = Accept none (replied (p .call .reference .0) a)
+serviceDecision o p (AssignLinkId l i) =
+    accept (change.SetLinkId (p .call .reference) l) (replied (p .call .reference .0) (answer.LinkIdResult i l))
+serviceDecision o p (Transfer x y i) = accept (change.Join (x .leg) (y .leg)) (transferReplies o (p .call .reference .0) i x y)
 
 abbrev pub decideFacility : Options → ℤ → List Entry → List ℕ → Option Party → Decision
 decideFacility o z es c none = Refuse refusal.NoSuchCall
-decideFacility o z es c (some p) = ServeCall p (serve o z (calls es) p (reading c))
+decideFacility o z es c (some p) = serviceDecision o p (serve o z (calls es) p (reading c))
 
 -- "6: Open: leg on the board"; "7: Open: reference in use"; "8: Open: no empty row"
 abbrev pub decideOpen : Bool → Bool → Bool → Decision → Decision
 decideOpen legThere referenceThere full d =
     cond legThere (Refuse refusal.LegOnBoard) (cond referenceThere (Refuse refusal.ReferenceInUse) (cond full (Refuse refusal.NoEmptyRow) d))
 
+-- a far party with its new call and its number
+abbrev pub opening : ℕ → ℕ → Direction → PartyNumber → Decision
+opening r l d n = Accept (some (Enter (record { leg = l; call = opened r d }) n)) nothing
+
 -- by the options, the candidate, whether no row is empty, and the entries
 unfoldable pub decide : Options → ℤ → Bool → List Entry → Request → Decision
 decide o z full es (Malformed c) = Refuse c
-decide o z full es (Open r l d n) = decideOpen (any (hasLeg l) es) (any (hasReference r) es) full (OpenLeg l (opened r d) n)
+decide o z full es (Open r l d n) = decideOpen (any (hasLeg l) es) (any (hasReference r) es) full (opening r l d n)
 decide o z full es (Progress r s) = decideProgress r s (named r es)
 decide o z full es (Hold r a) = decideHold r a (named r es)
 decide o z full es (Release l) = decideRelease (entryAt l es)
 decide o z full es (Facility r c) = decideFacility o z es c (named r es)
-decide o z full es (Answer l) = decideAnswer l (entryAt l es)
-
--- "Accepted events return 0"
-abbrev pub returnedBy : Decision → ℕ
-returnedBy (Refuse c) = refusalNumber c
-returnedBy (OpenLeg l c n) = 0
-returnedBy (SetState r s) = 0
-returnedBy (SetAuxiliary r a) = 0
-returnedBy (ReleaseLeg e) = 0
-returnedBy (ServeCall p s) = 0
-returnedBy (EndAlerting l p) = 0
+decide o z full es (Answer l) = decideAnswer o l (entryAt l es)

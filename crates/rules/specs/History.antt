@@ -13,16 +13,17 @@ use Rattle.board.specs.declared.Board.{Board}
 use Rattle.board.specs.declared.Connection.{Connection}
 use Rattle.board.specs.declared.Connection.the-variants.{WithUser, WithPartner}
 use Rattle.board.specs.declared.Entry.{Entry}
-use Rattle.board.specs.declared.Party.{Party}
+use Rattle.board.specs.declared.Options.{Options}
+use Rattle.board.specs.declared.Change.{Change}
+use Rattle.board.specs.declared.Change.the-variants as change
 use Rattle.board.specs.Entries.{taken, hasLeg, isPartner}
-use Rattle.board.specs.Soundness.{sound, sameLinkIds}
-use Rattle.board.specs.Making.{fresh}
+use Rattle.board.specs.Soundness.{sound, sameLinkIds, validOptions}
+use Rattle.board.specs.Making.{emptyBoard, fresh}
 use Rattle.events.specs.EventRecords.{request, Request, Malformed, Open, Progress, Hold, Release, Facility, Answer}
-use Rattle.rules.specs.Serving.{Service, Silent, Respond, AssignLinkId, Transfer}
-use Rattle.rules.specs.Checks.{Decision, Refuse, OpenLeg, SetState, SetAuxiliary, ReleaseLeg, ServeCall, EndAlerting, returnedBy}
+use Rattle.rules.specs.Checks.{BoardChange, Enter, Apply, returnedBy, changeOf}
 use Rattle.rules.specs.Replies.{DropOrder, errorRecord, errorOctets, octets}
 use Rattle.rules.specs.Step.{step, Outcome, refused}
-use Rattle.rules.specs.Book.{Book, freshBook, bookDecision, bookStep}
+use Rattle.rules.specs.Book.{Book, emptyBook, freshBook, bookDecision, bookStep}
 
 -- ---- playing a list
 
@@ -109,24 +110,23 @@ unfoldable pub ends : Book → Event → ℕ → Bool
 ends k e l = endsLeg (k .entries) l (request (e .octets))
 
 -- the party that a transfer joins the leg with
-abbrev pub serviceJoins : ℕ → Service → Option ℕ
-serviceJoins l Silent = none
-serviceJoins l (Respond a) = none
-serviceJoins l (AssignLinkId z i) = none
-serviceJoins l (Transfer p q i) = cond (eqb l (p .leg)) (some (q .leg)) (cond (eqb l (q .leg)) (some (p .leg)) none)
+abbrev pub joinsTo : ℕ → Change → Option ℕ
+joinsTo l (change.SetState r s) = none
+joinsTo l (change.SetAuxiliary r a) = none
+joinsTo l (change.SetLinkId r z) = none
+joinsTo l (change.Join a b) = cond (eqb l a) (some b) (cond (eqb l b) (some a) none)
+joinsTo l (change.EndAlerting m) = none
+joinsTo l (change.Release m) = none
+joinsTo l (change.ReleasePair m p) = none
 
-abbrev pub joinsTo : ℕ → Decision → Option ℕ
-joinsTo l (Refuse c) = none
-joinsTo l (OpenLeg m c n) = none
-joinsTo l (SetState r s) = none
-joinsTo l (SetAuxiliary r a) = none
-joinsTo l (ReleaseLeg e) = none
-joinsTo l (ServeCall p s) = serviceJoins l s
-joinsTo l (EndAlerting m p) = none
+abbrev pub joinedBy : ℕ → Option BoardChange → Option ℕ
+joinedBy l none = none
+joinedBy l (some (Enter p n)) = none
+joinedBy l (some (Apply c)) = joinsTo l c
 
 -- the party with whom the event joins the leg; "transfer, joined and live LinkId are the book's at that point of the list"
 unfoldable pub transferOf : Book → Event → ℕ → Option ℕ
-transferOf k e l = joinsTo l (bookDecision k (e .octets) (e .room))
+transferOf k e l = joinedBy l (changeOf (bookDecision k (e .octets) (e .room)))
 
 -- at a place of the history the leg was opened, and at no place since was it ended
 pub record Lives (k : Book) (h : List Event) (l : ℕ) : Type 0 where
@@ -195,6 +195,10 @@ pub record WholeHistory (b : Board) (k : Book) (list : List Event) : Type 0 wher
       stepped (boardAt b before) e ≡ refused (stepped (boardAt b before) e .returned) (boardAt b before)
   -- the board is sound, so 2 is returned nowhere
   pub sound-board : T (sound (boardAt b list))
+
+-- on the empty board of any options that are each 0 or 1
+abbrev pub Demand3Of : Options → Type 0
+Demand3Of o = T (validOptions o) → (list : List Event) → WholeHistory (emptyBoard o) (emptyBook o) list
 
 -- "For every list of events .. played into a board that begins fresh, whatever the options and reply buffers": the board that making returns
 abbrev pub Demand3 : Type 0

@@ -5,13 +5,18 @@ use mathlib.Core.List.{List, [], _∷_, _++_}
 use mathlib.Core.Option.{Option, none, some}
 use lib.Dec.{eqb}
 use lib.ListN.{length, replicate, getD}
+use Rattle.octets.specs.declared.IntegerOctets.{IntegerOctets}
 use Rattle.octets.specs.Lists.{find}
 use Rattle.octets.specs.Numbers.{two, four}
 use Rattle.component.specs.declared.Answer.{Answer}
+use Rattle.component.specs.declared.Answer.the-variants as answer
 use Rattle.component.specs.Answers.{answerOctets, filled}
 use Rattle.board.specs.declared.PartyNumber.{PartyNumber}
+use Rattle.board.specs.declared.Options.{Options}
 use Rattle.board.specs.declared.Row.{Row}
 use Rattle.board.specs.States.{delivered}
+use Rattle.board.specs.declared.Connection.{Connection}
+use Rattle.board.specs.declared.Connection.the-variants.{WithUser, WithPartner}
 use Rattle.board.specs.declared.Party.{Party}
 use Rattle.board.specs.Entries.{occupied}
 
@@ -84,16 +89,12 @@ told l false false n = Tell l facility transferredActive n 1
 told l false true n = Tell l facility transferredAlerting (markOnly 0) 1
 told l true other n = Tell l notify transferredActive n 0
 
--- "then two Tells, the named call's party first"
-abbrev pub tells : List Row → Party → Party → List ReplyRecord
-tells rows p q =
-    told (p .leg) (delivered (p .call)) (delivered (q .call)) (numberAt rows (q .leg))
-    ∷ told (q .leg) (delivered (q .call)) (delivered (p .call)) (numberAt rows (p .leg))
+-- "then two Tells, the named call's party first", each with the other's number; the options make no difference
+abbrev pub tells : Options → (ℕ → Number) → Party → Party → List ReplyRecord
+tells o numbers p q =
+    told (p .leg) (delivered (p .call)) (delivered (q .call)) (numbers (q .leg))
+    ∷ told (q .leg) (delivered (q .call)) (delivered (p .call)) (numbers (p .leg))
     ∷ []
-
--- "Answer tells the partner FACILITY, EA, the answering number, request 0 (H)."
-abbrev pub answerTold : List Row → ℕ → ℕ → ReplyRecord
-answerTold rows l partner = Tell partner facility transferredActive (numberAt rows l) 0
 
 -- the one point left open: "two Drops in either order"
 pub data DropOrder : Type 0 where
@@ -103,6 +104,34 @@ pub data DropOrder : Type 0 where
 abbrev pub drops : DropOrder → ℕ → ℕ → List ReplyRecord
 drops NamedFirst named other = Drop named ∷ Drop other ∷ []
 drops OtherFirst named other = Drop other ∷ Drop named ∷ []
+
+-- ---- what an event writes
+
+-- its records, by the order of two Drops, which is left open, and by the number of the party at each leg, which the rows have
+abbrev pub Written : Type 0
+Written = DropOrder → (ℕ → Number) → List ReplyRecord
+
+-- "Open, Progress and Hold write nothing"
+abbrev pub nothing : Written
+nothing order numbers = []
+
+-- the answer to the component of a Facility, on "the event's reference"
+abbrev pub replied : ℕ → Answer → Written
+replied r a order numbers = Reply r a ∷ []
+
+-- "A transfer writes Reply (A2, identifier only) on the named reference, two Drops in either order, then two Tells"
+abbrev pub transferReplies : Options → ℕ → IntegerOctets → Party → Party → Written
+transferReplies o r i p q order numbers =
+    Reply r (answer.Result i) ∷ (drops order (p .call .reference .0) (q .call .reference .0) ++ tells o numbers p q)
+
+-- "Release of a served call writes one Drop; of a joined leg, one Gone for the partner."
+abbrev pub releaseReplies : Connection → Written
+releaseReplies (WithUser c) order numbers = Drop (c .reference .0) ∷ []
+releaseReplies (WithPartner p a) order numbers = Gone p ∷ []
+
+-- "Answer tells the partner FACILITY, EA, the answering number, request 0 (H)."; the options make no difference
+abbrev pub answerTold : Options → ℕ → ℕ → Written
+answerTold o l partner order numbers = Tell partner facility transferredActive (numbers l) 0 ∷ []
 
 -- ---- "An error answer is a Reply whose component begins A3 or A4."
 

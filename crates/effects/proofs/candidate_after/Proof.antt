@@ -1,5 +1,7 @@
 use mathlib.Core.Path.{sym, ap, _∙_}
-use Rattle.effects.specs.Code.Effects.{candidateBy}
+use Rattle.board.specs.declared.Change.{Change}
+use Rattle.rules.specs.Checks.{assignedBy}
+use Rattle.rules.specs.Step.{candidateBy}
 use borrow.Author.Needs.{needs}
 use Rattle.effects.proofs.candidate_after.Statement.{statement}
 use Rattle.effects.proofs.candidate_after.Tie as tie
@@ -35,7 +37,7 @@ returns-2 : tie.Need-returns-2
 returns-2 c = search needs
 
 returns-3 : tie.Need-returns-3
-returns-3 c = c .next .ensures ∙ sym (ap (candidateBy (c .before .before .before .before .args .candidate)) (c .before .before .change .given .1))
+returns-3 c = c .next .ensures ∙ sym (ap (λ (x : Change). candidateBy (assignedBy x) (c .before .before .before .before .args .candidate)) (c .before .before .change .given .1))
 
 returns-4 : tie.Need-returns-4
 returns-4 c = search needs

@@ -12,8 +12,8 @@ enum-told-2 c = search needs
 open-row-requires : tie.Need-open-row-requires
 open-row-requires c κs = search needs
 
-enum-known-deed : tie.Need-enum-known-deed
-enum-known-deed c = search needs
+enum-known-board-change : tie.Need-enum-known-board-change
+enum-known-board-change c = search needs
 
 candidate-after-requires : tie.Need-candidate-after-requires
 candidate-after-requires c κs = search needs
@@ -30,7 +30,7 @@ returns-2 c =
 
 returns-3 : tie.Need-returns-3
 returns-3 c =
-    changed-board (c .before .before .before .before .before .args .effect .row) (c .before .before .before .before .before .args .board) (c .before .before .before .deed .given .1) (c .change .ensures) (c .before .candidate-after .ensures)
+    changed-board (c .before .before .before .before .before .args .effect .row) (c .before .before .before .before .before .args .board) (c .before .before .before .board-change .given .1) (c .change .ensures) (c .before .candidate-after .ensures)
 
 pub done-spec : {M : Type 1} → statement M
 done-spec =
@@ -39,7 +39,7 @@ done-spec =
     enum-told
     enum-told-2
     open-row-requires
-    enum-known-deed
+    enum-known-board-change
     candidate-after-requires
     change-requires
     returns

@@ -130,7 +130,7 @@ unfolding decide
 returns-7 c =
     let s = c .before .before .before .before .before .before .before .args in
     by-request (s .board) (s .event .now) _ (said (c .before .before .before .before .before .read-request .ensures) (c .before .before .before .leg2 .given .1))
-    (by-entry (decideAnswer (c .before .before .before .leg2 .given .0 .0)) (entryAt (c .before .before .before .leg2 .given .0 .0) (taken (s .board .rows))) (c .before .entry-at2 .ensures) (c .answer .ensures))
+    (by-entry (decideAnswer (s .board .options) (c .before .before .before .leg2 .given .0 .0)) (entryAt (c .before .before .before .leg2 .given .0 .0) (taken (s .board .rows))) (c .before .entry-at2 .ensures) (c .answer .ensures))
 
 pub effect-of-spec : {M : Type 1} → statement M
 effect-of-spec =

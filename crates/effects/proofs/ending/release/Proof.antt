@@ -1,7 +1,10 @@
-use Rattle.effects.proofs.EffectLaws.{release-none, release-some, call-released, pair-released}
+use Rattle.effects.proofs.EffectLaws.{release-none, release-some, applied}
+use Rattle.board.specs.declared.Change.the-variants as change
+use Rattle.board.specs.declared.Connection.the-variants.{WithUser, WithPartner}
+use Rattle.rules.specs.Replies.{releaseReplies}
 use borrow.Author.Needs.{needs}
-use Rattle.effects.proofs.release.Statement.{statement}
-use Rattle.effects.proofs.release.Tie as tie
+use Rattle.effects.proofs.ending.release.Statement.{statement}
+use Rattle.effects.proofs.ending.release.Tie as tie
 
 enum-known-found : tie.Need-enum-known-found
 enum-known-found c = search needs
@@ -36,13 +39,13 @@ accept-requires-2 c κs = search needs
 returns-2 : tie.Need-returns-2
 returns-2 c =
     release-some _ (c .before .before .before .before .before .before .before .found .given .1) (c .before .before .before .before .connection .given .1)
-    (call-released (c .before .before .before .before .before .before .before .found .given .0 .0 .leg) (c .before .before .before .before .connection .given .0 .0) (c .accept .ensures) (c .before .drop-notice .ensures))
+    (λ b. applied b (releaseReplies (WithUser (c .before .before .before .before .connection .given .0 .0))) (change.Release (c .before .before .before .before .before .before .before .found .given .0 .0 .leg)) (c .accept .ensures) (c .before .drop-notice .ensures))
 
 returns-3 : tie.Need-returns-3
 returns-3 c =
     release-some _ (c .before .before .before .before .before .before .found .given .1) (c .before .before .before .connection2 .given .1)
-    (pair-released (c .before .before .before .before .before .before .found .given .0 .0 .leg) (c .before .before .before .connection2 .given .0 .0) (c .before .before .before .connection2 .given .0 .1 .0) (c .accept2 .ensures)
-    (c .before .gone .ensures))
+    (λ b. applied b (releaseReplies (WithPartner (c .before .before .before .connection2 .given .0 .0) (c .before .before .before .connection2 .given .0 .1 .0)))
+    (change.ReleasePair (c .before .before .before .before .before .before .found .given .0 .0 .leg) (c .before .before .before .connection2 .given .0 .0)) (c .accept2 .ensures) (c .before .gone .ensures))
 
 pub release-spec : {M : Type 1} → statement M
 release-spec =

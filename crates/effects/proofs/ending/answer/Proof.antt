@@ -1,7 +1,9 @@
-use Rattle.effects.proofs.EffectLaws.{answer-none, answer-some, alerting-yes, alerting-no, alerting-ended}
+use Rattle.effects.proofs.EffectLaws.{answer-none, answer-some, alerting-yes, alerting-no, answer-written, applied}
+use Rattle.board.specs.declared.Change.the-variants as change
+use Rattle.rules.specs.Replies.{answerTold}
 use borrow.Author.Needs.{needs}
-use Rattle.effects.proofs.answer.Statement.{statement}
-use Rattle.effects.proofs.answer.Tie as tie
+use Rattle.effects.proofs.ending.answer.Statement.{statement}
+use Rattle.effects.proofs.ending.answer.Tie as tie
 
 enum-known-found : tie.Need-enum-known-found
 enum-known-found c = search needs
@@ -15,7 +17,7 @@ refuse-requires c κs = search needs
 returns : tie.Need-returns
 returns c =
     let s = c .before .before .before .args in
-    answer-none (s .leg) (c .before .enum-told .given .1) (c .refuse .ensures (s .board))
+    answer-none (s .board .options) (s .leg) (c .before .enum-told .given .1) (c .refuse .ensures (s .board))
 
 enum-known-connection : tie.Need-enum-known-connection
 enum-known-connection c = search needs
@@ -29,7 +31,7 @@ refuse-requires-2 c κs = search needs
 returns-2 : tie.Need-returns-2
 returns-2 c =
     let s = c .before .before .before .before .before .before .args in
-    answer-some (s .leg) _ (c .before .before .before .before .found .given .1) (c .before .enum-told2 .given .1) (c .refuse2 .ensures (s .board))
+    answer-some (s .board .options) (s .leg) _ (c .before .before .before .before .found .given .1) (c .before .enum-told2 .given .1) (c .refuse2 .ensures (s .board))
 
 number-at-requires : tie.Need-number-at-requires
 number-at-requires c κs = search needs
@@ -44,9 +46,10 @@ returns-3 : tie.Need-returns-3
 returns-3 c =
     let s = c .before .before .before .before .before .before .before .before .before .before .args in
     let x = c .before .before .before .before .before .connection .given in
-    answer-some (s .leg) _ (c .before .before .before .before .before .before .before .before .found .given .1) (x .1)
-    (alerting-yes (s .leg) (x .0 .0) (x .0 .1 .0) (c .before .before .before .if1 .taken)
-    (alerting-ended (s .board) (s .leg) (x .0 .0) (c .accept .ensures) (c .before .before .number-at .ensures) (c .before .answer-told .ensures)))
+    answer-some (s .board .options) (s .leg) _ (c .before .before .before .before .before .before .before .before .found .given .1) (x .1)
+    (alerting-yes (s .board .options) (s .leg) (x .0 .0) (x .0 .1 .0) (c .before .before .before .if1 .taken)
+    (applied (s .board) (answerTold (s .board .options) (s .leg) (x .0 .0)) (change.EndAlerting (s .leg)) (c .accept .ensures)
+    (answer-written (s .board) (s .leg) (x .0 .0) (c .before .before .number-at .ensures) (c .before .answer-told .ensures))))
 
 refuse-requires-3 : tie.Need-refuse-requires-3
 refuse-requires-3 c κs = search needs
@@ -55,8 +58,8 @@ returns-4 : tie.Need-returns-4
 returns-4 c =
     let s = c .before .before .before .before .before .before .before .before .args in
     let x = c .before .before .before .connection .given in
-    answer-some (s .leg) _ (c .before .before .before .before .before .before .found .given .1) (x .1)
-    (alerting-no (s .leg) (x .0 .0) (x .0 .1 .0) (c .before .if1 .left) (c .refuse3 .ensures (s .board)))
+    answer-some (s .board .options) (s .leg) _ (c .before .before .before .before .before .before .found .given .1) (x .1)
+    (alerting-no (s .board .options) (s .leg) (x .0 .0) (x .0 .1 .0) (c .before .if1 .left) (c .refuse3 .ensures (s .board)))
 
 pub answer-spec : {M : Type 1} → statement M
 answer-spec =

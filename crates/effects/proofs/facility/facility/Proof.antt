@@ -6,8 +6,8 @@ use Rattle.rules.specs.Serving.{serve}
 use Rattle.serving.proofs.PartyLaws.{party-none, party-some}
 use Rattle.effects.proofs.EffectLaws.{facility-none, facility-some, service-is}
 use borrow.Author.Needs.{needs}
-use Rattle.effects.proofs.facility.Statement.{statement}
-use Rattle.effects.proofs.facility.Tie as tie
+use Rattle.effects.proofs.facility.facility.Statement.{statement}
+use Rattle.effects.proofs.facility.facility.Tie as tie
 
 named-requires : tie.Need-named-requires
 named-requires c κs = search needs
@@ -44,7 +44,7 @@ returns-2 c =
     (named (s .args .reference .0) (taken (s .args .board .rows)))
     (party-some (named (s .args .reference .0) (taken (s .args .board .rows)))
     (told (c .before .before .before .before .before .before .named .ensures) (c .before .before .before .before .party .given .1)))
-    (service-is (c .before .before .before .before .party .given .0 .0)
+    (service-is (s .args .board .options) (c .before .before .before .before .party .given .0 .0)
     (c .before .serve .ensures
     ∙ ap
     (serve (s .args .board .options) (s .args .board .candidate .0) (calls (taken (s .args .board .rows)))

@@ -1,8 +1,10 @@
 use mathlib.Core.Bool.{true, false}
-use Rattle.effects.proofs.EffectLaws.{hold-none, hold-by, auxiliary-set}
+use Rattle.board.specs.declared.Change.the-variants as change
+use Rattle.rules.specs.Replies.{nothing}
+use Rattle.effects.proofs.EffectLaws.{hold-none, hold-by, applied}
 use borrow.Author.Needs.{needs}
-use Rattle.effects.proofs.hold.Statement.{statement}
-use Rattle.effects.proofs.hold.Tie as tie
+use Rattle.effects.proofs.call_states.hold.Statement.{statement}
+use Rattle.effects.proofs.call_states.hold.Tie as tie
 
 enum-known-found : tie.Need-enum-known-found
 enum-known-found c = search needs
@@ -34,7 +36,7 @@ returns-2 : tie.Need-returns-2
 returns-2 c =
     let s = c .before .before .before .before .before .before .before .before .before .args in
     hold-by (s .reference .0) (s .auxiliary) true (c .before .before .before .before .before .before .before .found .given .1) (rw (c .before .before .before .before .is-holdable .ensures, c .before .before .before .may-hold .ensures) at (c .before .before .if1 .taken))
-    (auxiliary-set (s .reference) (s .auxiliary) (c .accept .ensures) (c .before .nothing .ensures))
+    (λ b. applied b nothing (change.SetAuxiliary (s .reference) (s .auxiliary)) (c .accept .ensures) (c .before .nothing .ensures))
 
 refuse-requires-2 : tie.Need-refuse-requires-2
 refuse-requires-2 c κs = search needs

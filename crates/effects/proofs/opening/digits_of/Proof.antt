@@ -6,8 +6,8 @@ use lib.ListN.{length, take, drop}
 use lib.Seq.{take-all}
 use borrow.Author.Needs.{needs}
 use Rattle.events.proofs.RecordLaws.{copied}
-use Rattle.effects.proofs.digits.digits_of.Statement.{statement}
-use Rattle.effects.proofs.digits.digits_of.Tie as tie
+use Rattle.effects.proofs.opening.digits_of.Statement.{statement}
+use Rattle.effects.proofs.opening.digits_of.Tie as tie
 
 abbrev Inv-loop : tie.InvT-loop
 Inv-loop event digits₀ i₀ digits i = (i ≤ 15) × (length digits ≡ 15) × (take i digits ≡ take i (drop 10 event))

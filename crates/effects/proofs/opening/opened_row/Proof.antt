@@ -1,6 +1,6 @@
 use borrow.Author.Needs.{needs}
-use Rattle.effects.proofs.opened_row.Statement.{statement}
-use Rattle.effects.proofs.opened_row.Tie as tie
+use Rattle.effects.proofs.opening.opened_row.Statement.{statement}
+use Rattle.effects.proofs.opening.opened_row.Tie as tie
 
 first-state-requires : tie.Need-first-state-requires
 first-state-requires c κs = search needs

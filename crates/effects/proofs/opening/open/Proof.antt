@@ -1,11 +1,11 @@
 use Rattle.octets.specs.Lists.{any}
 use Rattle.board.specs.Entries.{taken, hasLeg, hasReference}
 use Rattle.board.specs.Changes.{full}
-use Rattle.rules.specs.Checks.{OpenLeg, opened}
+use Rattle.rules.specs.Checks.{opening}
 use Rattle.effects.proofs.EffectLaws.{open-leg-there, open-reference-there, open-full, open-done, leg-seen, reference-seen, full-seen, opened-leg}
 use borrow.Author.Needs.{needs}
-use Rattle.effects.proofs.open.Statement.{statement}
-use Rattle.effects.proofs.open.Tie as tie
+use Rattle.effects.proofs.opening.open.Statement.{statement}
+use Rattle.effects.proofs.opening.open.Tie as tie
 
 look-over-requires : tie.Need-look-over-requires
 look-over-requires c κs = search needs
@@ -18,7 +18,7 @@ returns c =
     let s = c .before .before .before .args in
     let look = c .before .before .look-over .ensures in
     open-leg-there (any (hasLeg (s .l)) (taken (s .board .rows))) (any (hasReference (s .r .0)) (taken (s .board .rows))) (full (s .board .rows))
-    (OpenLeg (s .l) (opened (s .r .0) (s .d)) (s .number))
+    (opening (s .r .0) (s .l) (s .d) (s .number))
     (leg-seen (s .l) (s .r) (s .board .rows) look (c .before .if1 .taken))
     (c .refuse .ensures (s .board))
 
@@ -30,7 +30,7 @@ returns-2 c =
     let s = c .before .before .before .before .args in
     let look = c .before .before .before .look-over .ensures in
     open-reference-there (any (hasLeg (s .l)) (taken (s .board .rows))) (any (hasReference (s .r .0)) (taken (s .board .rows))) (full (s .board .rows))
-    (OpenLeg (s .l) (opened (s .r .0) (s .d)) (s .number))
+    (opening (s .r .0) (s .l) (s .d) (s .number))
     (leg-seen (s .l) (s .r) (s .board .rows) look (c .before .before .if1 .left))
     (reference-seen (s .l) (s .r) (s .board .rows) look (c .before .if2 .taken))
     (c .refuse2 .ensures (s .board))
@@ -43,7 +43,7 @@ returns-3 c =
     let s = c .before .before .before .before .before .before .args in
     let look = c .before .before .before .before .before .look-over .ensures in
     open-full (any (hasLeg (s .l)) (taken (s .board .rows))) (any (hasReference (s .r .0)) (taken (s .board .rows))) (full (s .board .rows))
-    (OpenLeg (s .l) (opened (s .r .0) (s .d)) (s .number))
+    (opening (s .r .0) (s .l) (s .d) (s .number))
     (leg-seen (s .l) (s .r) (s .board .rows) look (c .before .before .before .before .if1 .left))
     (reference-seen (s .l) (s .r) (s .board .rows) look (c .before .before .before .if2 .left))
     (full-seen (s .l) (s .r) (s .board .rows) look (c .before .if3 .taken))
@@ -60,7 +60,7 @@ returns-4 c =
     let s = c .before .before .before .before .before .before .before .args in
     let look = c .before .before .before .before .before .before .look-over .ensures in
     open-done (any (hasLeg (s .l)) (taken (s .board .rows))) (any (hasReference (s .r .0)) (taken (s .board .rows))) (full (s .board .rows))
-    (OpenLeg (s .l) (opened (s .r .0) (s .d)) (s .number))
+    (opening (s .r .0) (s .l) (s .d) (s .number))
     (leg-seen (s .l) (s .r) (s .board .rows) look (c .before .before .before .before .before .if1 .left))
     (reference-seen (s .l) (s .r) (s .board .rows) look (c .before .before .before .before .if2 .left))
     (full-seen (s .l) (s .r) (s .board .rows) look (c .before .before .if3 .left))

@@ -1,9 +1,11 @@
 use mathlib.Core.Bool.{true, false}
 use Rattle.octets.proofs.Places.{told}
-use Rattle.effects.proofs.EffectLaws.{progress-none, progress-by, state-set}
+use Rattle.board.specs.declared.Change.the-variants as change
+use Rattle.rules.specs.Replies.{nothing}
+use Rattle.effects.proofs.EffectLaws.{progress-none, progress-by, applied}
 use borrow.Author.Needs.{needs}
-use Rattle.effects.proofs.progress.Statement.{statement}
-use Rattle.effects.proofs.progress.Tie as tie
+use Rattle.effects.proofs.call_states.progress.Statement.{statement}
+use Rattle.effects.proofs.call_states.progress.Tie as tie
 
 enum-known-found : tie.Need-enum-known-found
 enum-known-found c = search needs
@@ -32,7 +34,7 @@ returns-2 : tie.Need-returns-2
 returns-2 c =
     let s = c .before .before .before .before .before .before .before .before .args in
     progress-by (s .reference .0) (s .state) true (c .before .before .before .before .before .before .found .given .1) (told (c .before .before .before .may-progress .ensures) (c .before .before .if1 .taken))
-    (state-set (s .reference) (s .state) (c .accept .ensures) (c .before .nothing .ensures))
+    (λ b. applied b nothing (change.SetState (s .reference) (s .state)) (c .accept .ensures) (c .before .nothing .ensures))
 
 refuse-requires-2 : tie.Need-refuse-requires-2
 refuse-requires-2 c κs = search needs

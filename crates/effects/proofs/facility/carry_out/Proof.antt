@@ -1,8 +1,11 @@
 use mathlib.Core.Path.{sym}
-use Rattle.effects.proofs.EffectLaws.{service-is, served-silent, responded, assigned-link}
+use Rattle.effects.proofs.EffectLaws.{service-is, unchanged, applied}
+use Rattle.board.specs.declared.Change.the-variants as change
+use Rattle.component.specs.declared.Answer.the-variants as answer
+use Rattle.rules.specs.Replies.{nothing, replied}
 use borrow.Author.Needs.{needs}
-use Rattle.effects.proofs.carry_out.Statement.{statement}
-use Rattle.effects.proofs.carry_out.Tie as tie
+use Rattle.effects.proofs.facility.carry_out.Statement.{statement}
+use Rattle.effects.proofs.facility.carry_out.Tie as tie
 
 enum-told : tie.Need-enum-told
 enum-told c = search needs
@@ -40,23 +43,23 @@ transfer-requires c κs = search needs
 returns : tie.Need-returns
 returns c =
     let s = c .before .before .before .before .before .before .args in
-    service-is (s .party) (sym (c .before .before .enum-told .given .1)) (served-silent (s .party) (c .accept .ensures) (c .before .nothing .ensures) (s .board))
+    service-is (s .board .options) (s .party) (sym (c .before .before .enum-told .given .1)) (unchanged (s .board) nothing (c .accept .ensures) (c .before .nothing .ensures))
 
 returns-2 : tie.Need-returns-2
 returns-2 c =
     let s = c .before .before .before .before .before .before .before .args in
     let x = c .before .before .before .service .given in
-    service-is (s .party) (sym (x .1)) (responded (s .party) (x .0 .0) (c .accept2 .ensures) (c .before .reply .ensures) (s .board))
+    service-is (s .board .options) (s .party) (sym (x .1)) (unchanged (s .board) (replied (s .party .call .reference .0) (x .0 .0)) (c .accept2 .ensures) (c .before .reply .ensures))
 
 returns-3 : tie.Need-returns-3
 returns-3 c =
     let s = c .before .before .before .before .before .before .before .args in
     let x = c .before .before .before .service2 .given in
-    service-is (s .party) (sym (x .1))
-    (assigned-link (s .party) (x .0 .0) (x .0 .1 .0) (c .accept3 .ensures) (c .before .reply2 .ensures) (s .board))
+    service-is (s .board .options) (s .party) (sym (x .1))
+    (applied (s .board) (replied (s .party .call .reference .0) (answer.LinkIdResult (x .0 .1 .0) (x .0 .0))) (change.SetLinkId (s .party .call .reference) (x .0 .0)) (c .accept3 .ensures) (c .before .reply2 .ensures))
 
 returns-4 : tie.Need-returns-4
-returns-4 c = service-is (c .before .before .before .before .before .before .args .party) (sym (c .before .before .service3 .given .1)) (c .transfer .ensures)
+returns-4 c = let s = c .before .before .before .before .before .before .args in service-is (s .board .options) (s .party) (sym (c .before .before .service3 .given .1)) (c .transfer .ensures)
 
 pub carry-out-spec : {M : Type 1} → statement M
 carry-out-spec =

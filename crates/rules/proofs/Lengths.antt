@@ -1,0 +1,55 @@
+-- How many octets the records of an event have.
+use Prim.Native.Nat.{_+_, _-_, _≤_, ℕ, zero-le}
+use native.Mathlib.Omega.{arith}
+use mathlib.Core.Path.{_≡_, refl}
+use mathlib.Core.Bool.{true, false, Bool}
+use mathlib.Core.List.{_++_, _∷_, List, []}
+use lib.ListN.{length, length-append, replicate, length-replicate}
+use Rattle.component.proofs.Length.{answer-length}
+use Rattle.component.specs.Answers.{answerOctets}
+use Rattle.component.specs.declared.Answer.{Answer}
+use Rattle.rules.specs.Replies.{recordOctets, Reply, Number, told, ReplyRecord, octets, drops, DropOrder, NamedFirst, OtherFirst, Written, nothing, replied}
+
+pub reply-length : (r : ℕ) (a : Answer) → length (recordOctets (Reply r a)) ≡ 36
+reply-length r a =
+    let q = length-append (answerOctets a) (replicate (32 - length (answerOctets a)) 0) in
+    let w = length-replicate {A = ℕ} (32 - length (answerOctets a)) 0 in
+    let h = answer-length a in
+    omega arith
+
+told-length : (l : ℕ) (a b : Bool) (n : Number) → length (n .digits) ≡ 15 → length (recordOctets (told l a b n)) ≡ 25
+told-length l false false n h = omega arith
+told-length l false true n h = refl
+told-length l true b n h = omega arith
+
+pub one-length : (r : ReplyRecord) → length (octets (r ∷ [])) ≡ length (recordOctets r)
+unfolding octets
+one-length r = let e = length-append (recordOctets r) [] in omega arith
+
+drops-length : (o : DropOrder) (a b : ℕ) (rest : List ReplyRecord) → length (octets (drops o a b ++ rest)) ≡ 6 + length (octets rest)
+unfolding octets
+drops-length NamedFirst a b rest = omega arith
+drops-length OtherFirst a b rest = omega arith
+
+pub tells-length : (l m : ℕ) (a b : Bool) (n k : Number) → length (n .digits) ≡ 15 → length (k .digits) ≡ 15 → length (octets (told l a b n ∷ told m b a k ∷ [])) ≡ 50
+unfolding octets
+tells-length l m a b n k h j =
+    let e = length-append (recordOctets (told l a b n)) (octets (told m b a k ∷ [])) in
+    omega (arith, told-length l a b n h, told-length m b a k j, one-length (told m b a k))
+
+pub transfer-length : (order : DropOrder) (r : ℕ) (x : Answer) (a b : ℕ) (rest : List ReplyRecord) → length (octets rest) ≡ 50 → length (octets (Reply r x ∷ (drops order a b ++ rest))) ≡ 92
+unfolding octets
+transfer-length order r x a b rest h =
+    let e = length-append (recordOctets (Reply r x)) (octets (drops order a b ++ rest)) in
+    omega (arith, reply-length r x, drops-length order a b rest, h)
+
+-- what is written fits, where each number has 15 digits
+pub record Short (w : Written) : Type 0 where
+  pub fits : (order : DropOrder) (numbers : ℕ → Number) → ((l : ℕ) → length (numbers l .digits) ≡ 15) → length (octets (w order numbers)) ≤ 92
+
+pub nothing-short : Short nothing
+unfolding octets
+nothing-short = record { fits = λ order numbers k. zero-le }
+
+pub reply-short : (r : ℕ) (a : Answer) → Short (replied r a)
+reply-short r a = record { fits = λ order numbers k. omega (arith, one-length (Reply r a), reply-length r a) }
