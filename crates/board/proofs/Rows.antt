@@ -15,8 +15,9 @@ use Rattle.board.specs.declared.Standing.the-variants.{Empty, Served, Jo
 use Rattle.board.specs.declared.PartyNumber.{PartyNumber}
 use Rattle.board.specs.declared.Row.{Row}
 use Rattle.board.specs.Entries.{Connection, WithUser, WithPartner, Entry, entryOf, rowEntry, taken, occupied, linked, isJoined, linkIds}
+use Rattle.board.specs.LinkIds.{mostLinkIds}
 use Rattle.board.specs.Soundness.{validRow, validEntry, validNumber, validStanding, sameLegs, sameReferences, sameLinkIds, answersTo, validPartner, partnered, soundEntries, soundRows}
-use Rattle.board.specs.Code.RowTests.{fits, sharing, clashing, clash, answered, paired, takenRow, joinedRow, linkedRow}
+use Rattle.board.specs.Code.RowTests.{fits, sharing, clashing, clash, partneredBy, paired, takenRow, joinedRow, linkedRow}
 use Rattle.board.specs.Code.Tallies.{tallyOf}
 
 pub and-true : (b : Bool) → (b && true) ≡ b
@@ -65,14 +66,14 @@ clash-all rows =
     ∙ ap (λ (b : Bool). distinct sameLegs (taken rows) && b) (distinct-or sameReferences sameLinkIds (taken rows))
 
 -- what an entry asks of the entries, it asks of the rows
-partner-any : (rows : List Row) (n : ℕ) (k : Connection) → any (λ (b : Row). answered n k (rowEntry b)) rows ≡ true → validPartner (taken rows) n k ≡ true
+partner-any : (rows : List Row) (n : ℕ) (k : Connection) → any (λ (b : Row). partneredBy n k (rowEntry b)) rows ≡ true → validPartner (taken rows) n k ≡ true
 partner-any rows n (WithUser c) t = refl
 partner-any rows n (WithPartner p a) t = go (not (eqb n p)) (sym (any-and (not (eqb n p)) (λ (b : Row). has (answersTo n p a) (rowEntry b)) rows) ∙ t)
   where
     go : (b : Bool) → (b && any (λ (b : Row). has (answersTo n p a) (rowEntry b)) rows) ≡ true → (b && any (answersTo n p a) (taken rows)) ≡ true
     go b t = rw (any-pick rowEntry (answersTo n p a) rows) t
 
-any-partner : (rows : List Row) (r : Row) (n : ℕ) (k : Connection) → List·Memᴰ r rows → validPartner (taken rows) n k ≡ true → any (λ (b : Row). answered n k (rowEntry b)) rows ≡ true
+any-partner : (rows : List Row) (r : Row) (n : ℕ) (k : Connection) → List·Memᴰ r rows → validPartner (taken rows) n k ≡ true → any (λ (b : Row). partneredBy n k (rowEntry b)) rows ≡ true
 any-partner rows r n (WithUser c) m t = any-of (λ (b : Row). true) m refl
 any-partner rows r n (WithPartner p a) m t =
     any-and (not (eqb n p)) (λ (b : Row). has (answersTo n p a) (rowEntry b)) rows
@@ -80,7 +81,7 @@ any-partner rows r n (WithPartner p a) m t =
     ∙ t
 
 one-paired : (rows : List Row) (r : Row) (o : Option Entry) → List·Memᴰ r rows →
-    any (λ (b : Row). noneOr (λ (e : Entry). answered (e .leg) (e .connection) (rowEntry b)) o) rows ≡ noneOr (partnered (taken rows)) o
+    any (λ (b : Row). noneOr (λ (e : Entry). partneredBy (e .leg) (e .connection) (rowEntry b)) o) rows ≡ noneOr (partnered (taken rows)) o
 one-paired rows r none m = any-of (λ (b : Row). true) m refl
 one-paired rows r (some e) m = same-tests (λ t. partner-any rows (e .leg) (e .connection) t) (λ t. any-partner rows r (e .leg) (e .connection) m t)
 
@@ -104,7 +105,7 @@ and-four false b c d e f g = refl
 
 pub sound-by-rows : (rows : List Row) →
     soundRows rows
-    ≡ (all fits rows && (distinct clash rows && (leb (linkIds (taken rows)) 16 && all (λ (a : Row). any (paired a) rows) rows)))
+    ≡ (all fits rows && (distinct clash rows && (leb (linkIds (taken rows)) mostLinkIds && all (λ (a : Row). any (paired a) rows) rows)))
 unfolding soundRows soundEntries
 sound-by-rows rows = rw (fits-all rows, clash-all rows, paired-all rows) (and-four
     (all validRow rows)
@@ -112,7 +113,7 @@ sound-by-rows rows = rw (fits-all rows, clash-all rows, paired-all rows) (and-fo
     (distinct sameLegs (taken rows))
     (distinct sameReferences (taken rows))
     (distinct sameLinkIds (taken rows))
-    (leb (linkIds (taken rows)) 16)
+    (leb (linkIds (taken rows)) mostLinkIds)
     (all (partnered (taken rows)) (taken rows)))
 
 pub unfit-rows : (rows : List Row) → all fits rows ≡ false → soundRows rows ≡ false

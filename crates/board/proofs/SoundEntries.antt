@@ -8,6 +8,7 @@ use lib.Dec.{leb, eqb}
 use lib.ListN.{length}
 use lib.IntN.{ℤ}
 use Rattle.board.specs.Entries.{Entry, linkIds, hasLeg, isNumber, isLinkId, hasReference, referenceOf, hasLinkId, linkIdOf, linked, Connection, WithUser, WithPartner}
+use Rattle.board.specs.LinkIds.{mostLinkIds}
 use Rattle.board.specs.Soundness.{validEntry, sameLegs, sameReferences, sameLinkIds, partnered, soundEntries, sameNumbers, sameLinkIdsIn, validPartner, answersTo}
 use Rattle.octets.proofs.Lists.{right, left, both, eqb-sym, distinct-one, eqb-of, eqb-eq, true-not-false, small-mem, mem-keep, Perm, all-perm, distinct-perm, length-perm, keep-perm, all-ext, any-perm}
 use Rattle.octets.proofs.SameInteger.{sameInteger-sym, sameInteger-eq, sameInteger-self}
@@ -21,7 +22,7 @@ pub record Sound (es : List Entry) : Type 0 where
   pub legs : distinct sameLegs es ≡ true
   pub refs : distinct sameReferences es ≡ true
   pub lids : distinct sameLinkIds es ≡ true
-  pub few : leb (linkIds es) 16 ≡ true
+  pub few : leb (linkIds es) mostLinkIds ≡ true
   pub mates : all (partnered es) es ≡ true
 
 pub sound-of : (es : List Entry) → soundEntries es ≡ true → Sound es
@@ -36,8 +37,8 @@ sound-of es h =
       legs = left (distinct sameLegs es) _ r1;
       refs = left (distinct sameReferences es) _ r2;
       lids = left (distinct sameLinkIds es) _ r3;
-      few = left (leb (linkIds es) 16) _ r4;
-      mates = right (leb (linkIds es) 16) _ r4;
+      few = left (leb (linkIds es) mostLinkIds) _ r4;
+      mates = right (leb (linkIds es) mostLinkIds) _ r4;
     }
 
 pub of-sound : {es : List Entry} → Sound es → soundEntries es ≡ true
@@ -91,7 +92,7 @@ sound-perm {l} {m} p s = record {
   legs = sym (distinct-perm sameLegs (λ e f. eqb-sym (e .leg) (f .leg)) p) ∙ s .legs;
   refs = sym (distinct-perm sameReferences (λ e f. sameNumbers-sym (referenceOf (e .connection)) (referenceOf (f .connection))) p) ∙ s .refs;
   lids = sym (distinct-perm sameLinkIds (λ e f. sameLinkIdsIn-sym (linkIdOf (e .connection)) (linkIdOf (f .connection))) p) ∙ s .lids;
-  few = ap (λ (n : ℕ). leb n 16) (sym (length-perm (keep-perm linked p))) ∙ s .few;
+  few = ap (λ (n : ℕ). leb n mostLinkIds) (sym (length-perm (keep-perm linked p))) ∙ s .few;
   mates = sym (all-perm (partnered l) p ∙ all-ext (partnered l) (partnered m) m (λ e. partner (e .leg) (e .connection))) ∙ s .mates;
 }
   where

@@ -11,6 +11,10 @@ use Rattle.board.specs.declared.OptionalLinkId.the-variants.{Absent, Pre
 use Rattle.board.specs.declared.Row.{Row}
 use Rattle.board.specs.Entries.{Entry, taken, linkIdOf}
 
+-- "live LinkIds are distinct and at most 16 (H)"
+abbrev pub mostLinkIds : ℕ
+mostLinkIds = 16
+
 -- the term "live LinkIds": those of the calls with the served user
 abbrev pub liveLinkIds : List Row → List ℤ
 liveLinkIds rows = pick (λ (e : Entry). linkIdOf (e .connection)) (taken rows)

@@ -16,15 +16,19 @@ use Rattle.board.specs.declared.Options.{Options}
 use Rattle.board.specs.declared.Board.{Board}
 use Rattle.board.specs.States.{validCall}
 use Rattle.board.specs.Entries.{Connection, WithUser, WithPartner, Entry, taken, hasLeg, referenceOf, isNumber, linkIdOf, isLinkId, linkIds}
+use Rattle.board.specs.LinkIds.{mostLinkIds}
 
 -- ---- "fields obey this section and the digit rules below"
 
 abbrev pub zeros : List ℕ → Bool
 zeros os = all (λ (o : ℕ). eqb o 0) os
 
+abbrev pub isDigit : ℕ → Bool
+isDigit o = leb 48 o && leb o 57
+
 -- "digit count 1 (0 to 15), 15 octets: that many ASCII digits, then zeros"
 abbrev pub validDigits : ℕ → List ℕ → Bool
-validDigits n ds = eqb (length ds) 15 && leb n 15 && all (λ (d : ℕ). leb 48 d && leb d 57) (take n ds) && zeros (drop n ds)
+validDigits n ds = eqb (length ds) 15 && leb n 15 && all isDigit (take n ds) && zeros (drop n ds)
 
 -- "presentation 1 (0 shown, 1 restricted)"
 abbrev pub validNumber : PartyNumber → Bool
@@ -100,7 +104,7 @@ soundEntries es =
     && (distinct sameLegs es
     && (distinct sameReferences es
     && (distinct sameLinkIds es
-    && (leb (linkIds es) 16
+    && (leb (linkIds es) mostLinkIds
     && all (partnered es) es))))
 
 unfoldable pub soundRows : List Row → Bool

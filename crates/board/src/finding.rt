@@ -4,9 +4,10 @@ ghost use Rattle.octets.specs.Lists.{placeFrom, find as findIn};
 ghost use Rattle.board.specs.Entries.{occupied, linkIdIn, isLinkId};
 ghost use Rattle.board.specs.Lookup.{isCallOf, foundAt, foundRow, foundAnswer, lookup as lookupRows};
 ghost use Rattle.board.specs.Code.Keys.{linkOf, matchesKey, surveyOf};
-ghost use Rattle.board.specs.LinkIds.{liveLinkIds, freeLinkId, optionalLinkId};
+ghost use Rattle.board.specs.LinkIds.{mostLinkIds, liveLinkIds, freeLinkId, optionalLinkId};
 use crate::Board;
 use crate::Found;
+use crate::MOST_LINK_IDS;
 use crate::OptionalLinkId;
 use crate::Row;
 use crate::Standing;
@@ -136,12 +137,12 @@ pub fn lookup(board: Board, reference: CallReference) -> Found
     find(board, Key::Reference(reference))
 }
 
-// The first LinkId that is not live, from `first` upward. With fewer than 16 live, one of 16 values is free.
+// The first LinkId that is not live, from `first` upward. With fewer than the most live, one of that many values is free.
 fn free_from(board: Board, first: LinkId) -> OptionalLinkId
-    ensures { λ r. ⌜ r ≡ optionalLinkId (freeLinkId 16 (first .0) (liveLinkIds (board .rows))) ⌝ }
+    ensures { λ r. ⌜ r ≡ optionalLinkId (freeLinkId mostLinkIds (first .0) (liveLinkIds (board .rows))) ⌝ }
 {
     let mut id = first;
-    for k in 0..16u8 {
+    for k in 0..MOST_LINK_IDS {
         if let Found::Nothing = find(board, Key::LinkId(id)) {
             return OptionalLinkId::Present(id);
         }
@@ -152,7 +153,7 @@ fn free_from(board: Board, first: LinkId) -> OptionalLinkId
 
 // The LinkId that the board gives next.
 pub fn free_link_id(board: Board) -> OptionalLinkId
-    ensures { λ r. ⌜ r ≡ optionalLinkId (freeLinkId 16 (board .candidate .0) (liveLinkIds (board .rows))) ⌝ }
+    ensures { λ r. ⌜ r ≡ optionalLinkId (freeLinkId mostLinkIds (board .candidate .0) (liveLinkIds (board .rows))) ⌝ }
 {
     let candidate = board.candidate;
     free_from(board, candidate)

@@ -2,6 +2,7 @@
 use octets::CallReference;
 use octets::LinkId;
 ghost use mathlib.Core.Path.{_≡_};
+ghost use Rattle.board.specs.Soundness.{validOptions};
 ghost use Rattle.board.specs.Making.{emptyRow, emptyBoard, unmade, fresh as freshBoard};
 
 pub mod finding;
@@ -176,20 +177,25 @@ fn empty_board(options: Options) -> Board
     }
 }
 
+// Options are 0 or 1.
+pub fn valid_options(options: Options) -> bool
+    ensures { λ r. ⌜ r ≡ validOptions options ⌝ }
+{
+    (options.subscribed <= 1) & (options.alerting <= 1)
+}
+
 // A fresh board of two option octets, each 0 or 1.
 pub fn fresh(subscribed: u8, alerting: u8) -> Made
     ensures { λ r. ⌜ r ≡ freshBoard subscribed alerting ⌝ }
 {
-    if 1 < subscribed {
-        return refused();
-    }
-    if 1 < alerting {
-        return refused();
-    }
-    let board = empty_board(Options {
+    let options = Options {
         subscribed,
         alerting,
-    });
+    };
+    if !valid_options(options) {
+        return refused();
+    }
+    let board = empty_board(options);
     Made { returned: 0, board }
 }
 

@@ -18,7 +18,7 @@ use Rattle.board.specs.declared.CallState.the-variants.{CallDelivered, Active}
 use Rattle.board.specs.declared.AuxiliaryState.{AuxiliaryState}
 use Rattle.board.specs.declared.AuxiliaryState.the-variants.{Idle, HoldRequest, CallHeld, RetrieveRequest}
 use Rattle.board.specs.States.{validReference}
-use Rattle.board.specs.Soundness.{zeros, validDigits}
+use Rattle.board.specs.Soundness.{isDigit, zeros, validDigits}
 use Rattle.octets.proofs.Places.{rest}
 use Rattle.events.specs.declared.Refusal.{Refusal}
 use Rattle.events.specs.declared.Refusal.the-variants.{WrongLength, UnknownKind, FieldOutOfRange}
@@ -26,7 +26,7 @@ use Rattle.events.specs.declared.records.RequestHead.{RequestHead}
 use Rattle.events.specs.declared.records.RequestHead.the-variants as head
 use Rattle.events.specs.EventRecords.{Request, Malformed, Open, Progress, Hold, Release, Facility, Answer, field, directionOf}
 use Rattle.events.specs.EventRecords.{openBody, progressBody, holdBody, facilityBody, ranged, sized, ofKind, request}
-use Rattle.events.specs.Code.RecordValues.{isDigit, requestOf, RecordRead}
+use Rattle.events.specs.Code.RecordValues.{requestOf, RecordRead}
 
 -- ---- a test of each octet, from place i on
 module _ (p : ℕ → Bool) (s : List ℕ) (i : ℕ) where

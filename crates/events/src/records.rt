@@ -11,7 +11,8 @@ ghost use Rattle.octets.specs.Lists.{all};
 ghost use Rattle.board.specs.States.{validReference};
 ghost use Rattle.board.specs.Soundness.{zeros, validDigits};
 ghost use Rattle.events.specs.EventRecords.{field, directionOf, ofKind, request};
-ghost use Rattle.events.specs.Code.RecordValues.{isDigit, RecordRead};
+ghost use Rattle.board.specs.Soundness.{isDigit};
+ghost use Rattle.events.specs.Code.RecordValues.{RecordRead};
 
 // What a record asks for. The digits of an Open and the component of a Facility stay in the record:
 // 15 octets from place 10, and as many as said from place 4.

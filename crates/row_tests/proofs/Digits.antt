@@ -11,14 +11,11 @@ use lib.ListN.{length, take, drop}
 use borrow.Author.Tests.{eq-eqb, le-leb, lt-ltb, le-ltb}
 use Rattle.octets.specs.Lists.{all}
 use Rattle.octets.proofs.Loops.{Step, Past}
-use Rattle.board.specs.Soundness.{zeros, validDigits}
-
-abbrev digit : ℕ → Bool
-digit d = leb 48 d && leb d 57
+use Rattle.board.specs.Soundness.{zeros, isDigit, validDigits}
 
 -- a digit at place k where n of them lead, and zeros follow
 abbrev pub rightAt : ℕ → ℕ → ℕ → Bool
-rightAt n k d = ltb k n && digit d || not (ltb k n) && eqb d 0
+rightAt n k d = ltb k n && isDigit d || not (ltb k n) && eqb d 0
 
 -- the same of each from place k on
 unfoldable pub rightFrom : ℕ → ℕ → List ℕ → Bool
@@ -30,13 +27,13 @@ unfolding rightFrom
 right-zeros n k [] h = refl
 right-zeros n k (d ∷ ds) h = rw (le-ltb k n h, right-zeros n (suc k) ds (omega arith))
 
-right-all : (k m : ℕ) (ds : List ℕ) → rightFrom (k + m) k ds ≡ (all digit (take m ds) && zeros (drop m ds))
+right-all : (k m : ℕ) (ds : List ℕ) → rightFrom (k + m) k ds ≡ (all isDigit (take m ds) && zeros (drop m ds))
 unfolding rightFrom
 right-all k zero ds = right-zeros (k + 0) k ds (omega arith)
 right-all k (suc m) [] = refl
 right-all k (suc m) (d ∷ ds) =
     let e : k + suc m ≡ suc k + m = omega arith in
-    rw (lt-ltb k (k + suc m) (omega arith), or-false (digit d), e, right-all (suc k) m ds) (sym (and-assoc (digit d) (all digit (take m ds)) (zeros (drop m ds))))
+    rw (lt-ltb k (k + suc m) (omega arith), or-false (isDigit d), e, right-all (suc k) m ds) (sym (and-assoc (isDigit d) (all isDigit (take m ds)) (zeros (drop m ds))))
 
 pub right-valid : (n : ℕ) (ds : List ℕ) → length ds ≡ 15 → n ≤ 15 → rightFrom n 0 ds ≡ validDigits n ds
 right-valid n ds l h = rw (eq-eqb (length ds) 15 l, le-leb n 15 h) (ap (λ (m : ℕ). rightFrom m 0 ds) (sym (zero-add n)) ∙ right-all 0 n ds)

@@ -19,8 +19,8 @@ use Rattle.board.specs.declared.Entry.{Entry}
 use Rattle.board.specs.declared.Row.{Row}
 use Rattle.board.specs.Entries.{entryOf, occupied, linkIdIn}
 use Rattle.board.specs.Soundness.{answersTo, sameLinkIdsIn}
-use Rattle.board.specs.Code.RowTests.{clashing, clash, answered, paired, takenRow}
-use Rattle.row_tests.specs.Code.RowKeys.{linkNumber, callKey, keyOf, bothSame, joint}
+use Rattle.board.specs.Code.RowTests.{clashing, clash, partneredBy, paired, takenRow}
+use Rattle.row_tests.specs.Code.RowKeys.{linkNumber, callKey, keyOf, bothSame, joinedEntry}
 
 -- ---- the number of a LinkId, from its bits
 
@@ -93,10 +93,10 @@ bit-one false = refl
 
 abbrev answersKey : ℕ → Standing → ℕ → Standing → Bool
 answersKey m s n t =
-    answersTo m (keyOf s .partner) (eqb (keyOf s .alerting) 1) (joint n (keyOf t .partner) (keyOf t .alerting))
+    answersTo m (keyOf s .partner) (eqb (keyOf s .alerting) 1) (joinedEntry n (keyOf t .partner) (keyOf t .alerting))
 
 paired-at : (m n : ℕ) (s t : Standing) →
-    noneOr (λ (e : Entry). answered (e .leg) (e .connection) (entryOf n t)) (entryOf m s)
+    noneOr (λ (e : Entry). partneredBy (e .leg) (e .connection) (entryOf n t)) (entryOf m s)
     ≡ (eqb (keyOf s .joined) 0 || (not (eqb m (keyOf s .partner)) && (eqb (keyOf t .joined) 1 && answersKey m s n t)))
 unfolding keyOf
 paired-at m n Empty t = refl

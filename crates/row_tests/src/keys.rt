@@ -1,7 +1,7 @@
 // What a row is compared by with other rows. The board gathers these numbers in columns, and of lent rows two are held
 // against each other: what has to be distinct, and who is whose partner, is decided here for both.
 ghost use mathlib.Core.Path.{_≡_};
-ghost use Rattle.row_tests.specs.Code.RowKeys.{linkNumber, callKey, keyOf, joint, answersJoint};
+ghost use Rattle.row_tests.specs.Code.RowKeys.{linkNumber, callKey, keyOf, joinedEntry, answersJoinedLeg};
 use board::Call;
 use board::OptionalLinkId;
 use board::Row;
@@ -20,7 +20,7 @@ pub struct RowKey {
 }
 
 // A joined leg, its partner, and 1 where it alerts.
-pub struct Joint {
+pub struct JoinedLeg {
     pub leg: u32,
     pub partner: u32,
     pub alerting: u32,
@@ -96,8 +96,8 @@ pub fn row_key(row: Row) -> RowKey
 }
 
 // Whether `b` is the partner of `a` and is joined back to it, not both alerting.
-pub fn answers(a: Joint, b: Joint) -> bool
-    ensures { λ r. ⌜ r ≡ answersJoint a (joint (b .leg) (b .partner) (b .alerting)) ⌝ }
+pub fn answers(a: JoinedLeg, b: JoinedLeg) -> bool
+    ensures { λ r. ⌜ r ≡ answersJoinedLeg a (joinedEntry (b .leg) (b .partner) (b .alerting)) ⌝ }
 {
     (a.partner == b.leg) & ((a.leg == b.partner) & !((a.alerting == 1) & (b.alerting == 1)))
 }

@@ -17,7 +17,7 @@ use board::Row;
 use board::Standing;
 use board::Tally;
 use board::finding::is_occupied;
-use keys::Joint;
+use keys::JoinedLeg;
 use keys::answers;
 use keys::row_key;
 
@@ -77,7 +77,7 @@ fn call_valid(call: Call) -> bool
     if call.reference.0 % 32768 == 0 {
         return false;
     }
-    if direction_valid(state, direction) {} else {
+    if !direction_valid(state, direction) {
         return false;
     }
     if is_idle(auxiliary) {
@@ -187,17 +187,17 @@ pub fn rows_paired(a: Row, b: Row) -> bool
 {
     let k = row_key(a);
     let l = row_key(b);
-    let own = Joint {
+    let own = JoinedLeg {
         leg: a.leg,
         partner: k.partner,
         alerting: k.alerting,
     };
-    let other = Joint {
+    let other = JoinedLeg {
         leg: b.leg,
         partner: l.partner,
         alerting: l.alerting,
     };
-    (k.joined == 0) | (!(a.leg == k.partner) & ((l.joined == 1) & answers(own, other)))
+    (k.joined == 0) | ((a.leg != k.partner) & ((l.joined == 1) & answers(own, other)))
 }
 
 // What one row adds to each count.

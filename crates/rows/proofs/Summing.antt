@@ -9,6 +9,7 @@ use Rattle.octets.specs.Lists.{any, all, distinct}
 use Rattle.octets.proofs.Loops.{Step, Counting, step-at, past-end, count-start, count-step, count-end}
 use Rattle.board.specs.declared.Row.{Row}
 use Rattle.board.specs.declared.Tally.{Tally}
+use Rattle.board.specs.LinkIds.{mostLinkIds}
 use Rattle.board.specs.Soundness.{soundRows}
 use Rattle.board.specs.Counts.{counts, countedAnswer, legs, links}
 use Rattle.board.specs.Code.Tallies.{tallyOf}
@@ -16,10 +17,10 @@ use Rattle.board.specs.Making.{emptyRow}
 use Rattle.board.specs.Code.RowTests.{fits, clash, paired, takenRow, joinedRow, linkedRow}
 use Rattle.board.proofs.Answers.{counts-answer}
 use Rattle.board.proofs.Rows.{sound-by-rows, tally-all}
-use Rattle.rows.specs.declared.Placed.{Placed}
-use Rattle.rows.specs.declared.Met.{Met}
+use Rattle.rows.specs.declared.RowAt.{RowAt}
+use Rattle.rows.specs.declared.Comparison.{Comparison}
 use Rattle.rows.specs.declared.Sums.{Sums}
-use Rattle.rows.specs.Code.Steps.{among, added, counted}
+use Rattle.rows.specs.Code.Steps.{comparedWithAll, added, counted}
 
 -- the rules on these of the rows, the number of LinkIds apart
 abbrev obeying : List Row → List Row → Bool
@@ -54,7 +55,7 @@ module _ (ys : List Row) where
   pub summing-start : Summing ys 0 (record { sound = true; legs = 0; joined = 0; links = 0 })
   summing-start = record { rules = refl; taken-rows = count-start _ _; joined-rows = count-start _ _; linked-rows = count-start _ _ }
 
-  pub summing-step : (i : ℕ) (s r : Sums) (m : Met) → i < length ys → m ≡ among (record { row = getD ys i emptyRow; place = i }) ys → r ≡ added s (record { row = getD ys i emptyRow; place = i }) m →
+  pub summing-step : (i : ℕ) (s r : Sums) (m : Comparison) → i < length ys → m ≡ comparedWithAll (record { row = getD ys i emptyRow; place = i }) ys → r ≡ added s (record { row = getD ys i emptyRow; place = i }) m →
       Summing ys i s → Summing ys (i + 1) r
   summing-step i s r m l em e t = subst⁻¹ (Summing ys (i + 1)) (e ∙ ap (added s p) em) (record {
     rules = regroup (s .sound) (fits x) (not (any (clash x) (drop (i + 1) ys))) (any (paired x) ys) (all fits zs) (distinct clash zs) (all (λ (a : Row). any (paired a) ys) zs) ∙ ap (λ (l : List Row). s .sound && obeying ys l) (sym (at .split)) ∙ t .rules;
@@ -66,7 +67,7 @@ module _ (ys : List Row) where
       x : Row
       x = getD ys i emptyRow
 
-      p : Placed
+      p : RowAt
       p = record { row = x; place = i }
 
       zs : List Row
@@ -77,7 +78,7 @@ module _ (ys : List Row) where
 
   pub summing-end : (i : ℕ) (s : Sums) → length ys ≤ i → Summing ys i s → countedAnswer (counted s) ≡ counts ys
   unfolding tallyOf
-  summing-end i s l t = ap (λ (t : Sums). countedAnswer (counted t)) sums-are ∙ counts-answer ys (leb (links ys) 16 && obeying ys ys) sound-is
+  summing-end i s l t = ap (λ (t : Sums). countedAnswer (counted t)) sums-are ∙ counts-answer ys (leb (links ys) mostLinkIds && obeying ys ys) sound-is
     where
       rules-are : s .sound ≡ obeying ys ys
       rules-are = sym (and-true (s .sound)) ∙ ap (λ (l : List Row). s .sound && obeying ys l) (sym (past-end ys i l .rest)) ∙ t .rules
@@ -86,5 +87,5 @@ module _ (ys : List Row) where
       sums-are = rw (rules-are, count-end (past-end ys i l) (t .taken-rows), count-end (past-end ys i l) (t .joined-rows), count-end (past-end ys i l) (t .linked-rows))
           (ap (λ (u : Tally). record { sound = obeying ys ys; legs = u .legs; joined = u .joined; links = u .links }) (sym (tally-all ys)))
 
-      sound-is : soundRows ys ≡ (leb (links ys) 16 && obeying ys ys)
-      sound-is = sound-by-rows ys ∙ fewest-first (all fits ys) (distinct clash ys) (leb (links ys) 16) (all (λ (a : Row). any (paired a) ys) ys)
+      sound-is : soundRows ys ≡ (leb (links ys) mostLinkIds && obeying ys ys)
+      sound-is = sound-by-rows ys ∙ fewest-first (all fits ys) (distinct clash ys) (leb (links ys) mostLinkIds) (all (λ (a : Row). any (paired a) ys) ys)

@@ -13,10 +13,10 @@ use Rattle.board.proofs.Found as F
 use Rattle.board.proofs.Found.Laws as F′
 use Rattle.board.proofs.Counted as C
 use Rattle.board.proofs.Counted.Laws as C′
-use Rattle.rows.proofs.Placed as P
-use Rattle.rows.proofs.Placed.Laws as P′
-use Rattle.rows.proofs.Met as M
-use Rattle.rows.proofs.Met.Laws as M′
+use Rattle.rows.proofs.RowAt as P
+use Rattle.rows.proofs.RowAt.Laws as P′
+use Rattle.rows.proofs.Comparison as M
+use Rattle.rows.proofs.Comparison.Laws as M′
 use Rattle.rows.proofs.Sums as S
 use Rattle.rows.proofs.Sums.Laws as S′
 use Rattle.rows.proofs.Carried.{Carried, of-struct, of-enum}
@@ -34,11 +34,11 @@ AFound = of-enum F.the-type F′.the-laws F′.the-plain F′.the-copy tt
 abbrev pub ACounted : Carried
 ACounted = of-enum C.the-type C′.the-laws C′.the-plain C′.the-copy tt
 
-abbrev pub APlaced : Carried
-APlaced = of-struct P.the-type P′.the-laws P′.the-plain P′.the-copy
+abbrev pub ARowAt : Carried
+ARowAt = of-struct P.the-type P′.the-laws P′.the-plain P′.the-copy
 
-abbrev pub AMet : Carried
-AMet = of-struct M.the-type M′.the-laws M′.the-plain M′.the-copy
+abbrev pub AComparison : Carried
+AComparison = of-struct M.the-type M′.the-laws M′.the-plain M′.the-copy
 
 abbrev pub ASums : Carried
 ASums = of-struct S.the-type S′.the-laws S′.the-plain S′.the-copy

@@ -4,7 +4,7 @@ ghost use mathlib.Core.Path.{_≡_};
 ghost use Prim.Native.Nat.{_+_, _≤_, _<_, _^_};
 ghost use Rattle.board.specs.Lookup.{foundAnswer, lookup as lookupRows};
 ghost use Rattle.board.specs.Counts.{countedAnswer, counts};
-ghost use Rattle.rows.specs.Code.Steps.{seen, meeting, among, added, counted};
+ghost use Rattle.rows.specs.Code.Steps.{lookupStep, compared, comparedWithAll, added, counted};
 use board::Counted;
 use board::Found;
 use board::MOST_LINK_IDS;
@@ -17,8 +17,8 @@ use row_tests::rows_clash;
 use row_tests::rows_paired;
 
 // What is found once the row at that place is read: the first place found stays.
-fn see(found: Found, row: Row, reference: CallReference, place: usize) -> Found
-    ensures { λ r. ⌜ r ≡ seen (reference .0) found row place ⌝ }
+fn lookup_step(found: Found, row: Row, reference: CallReference, place: usize) -> Found
+    ensures { λ r. ⌜ r ≡ lookupStep (reference .0) found row place ⌝ }
 {
     let standing = row.standing;
     match found {
@@ -40,7 +40,7 @@ pub fn lookup(rows: &[Row], reference: CallReference) -> Found
     let mut place = 0usize;
     while place < rows.len() {
         let row = rows[place];
-        found = see(found, row, reference, place);
+        found = lookup_step(found, row, reference, place);
         place = place + 1;
     }
     found
@@ -54,50 +54,50 @@ pub fn lookup_in(rows: [Row; 64], reference: CallReference) -> Found
 }
 
 // A row and its place.
-struct Placed {
+struct RowAt {
     row: Row,
     place: usize,
 }
 
 // What the rows say of one: whether a later row clashes with it, and whether a row is its partner or it needs none.
-struct Met {
+struct Comparison {
     clashes: bool,
     paired: bool,
 }
 
 // What is known of a row once another one, at that place, is held against it.
-fn meet(met: Met, other: Row, subject: Placed, place: usize) -> Met
-    ensures { λ r. ⌜ r ≡ meeting met other subject place ⌝ }
+fn compare(comparison: Comparison, other: Row, subject: RowAt, place: usize) -> Comparison
+    ensures { λ r. ⌜ r ≡ compared comparison other subject place ⌝ }
 {
     let row = subject.row;
-    let paired = met.paired | rows_paired(row, other);
+    let paired = comparison.paired | rows_paired(row, other);
     if subject.place < place {
-        return Met {
-            clashes: met.clashes | rows_clash(row, other),
+        return Comparison {
+            clashes: comparison.clashes | rows_clash(row, other),
             paired,
         };
     }
-    Met {
-        clashes: met.clashes,
+    Comparison {
+        clashes: comparison.clashes,
         paired,
     }
 }
 
 // What all rows say of one of them.
-fn meet_all(rows: &[Row], subject: Placed) -> Met
-    ensures { λ r. ⌜ r ≡ among subject (now (rows .entry)) ⌝ }
+fn compare_with_all(rows: &[Row], subject: RowAt) -> Comparison
+    ensures { λ r. ⌜ r ≡ comparedWithAll subject (now (rows .entry)) ⌝ }
 {
-    let mut met = Met {
+    let mut comparison = Comparison {
         clashes: false,
         paired: false,
     };
     let mut place = 0usize;
     while place < rows.len() {
         let other = rows[place];
-        met = meet(met, other, subject, place);
+        comparison = compare(comparison, other, subject, place);
         place = place + 1;
     }
-    met
+    comparison
 }
 
 // Whether the rows so far obey the rules, that on the number of LinkIds apart, and how many are taken, are joined and
@@ -110,15 +110,15 @@ struct Sums {
 }
 
 // One row more, with what the rows say of it. Each count is at most the place, so that no sum overflows.
-fn add(sums: Sums, subject: Placed, met: Met) -> Sums
+fn add(sums: Sums, subject: RowAt, comparison: Comparison) -> Sums
     requires { ⌜ (sums .legs ≤ subject .place) × (sums .joined ≤ subject .place) × (sums .links ≤ subject .place)
         × (subject .place + 1 < 2 ^ 64) ⌝ }
-    ensures { λ r. ⌜ r ≡ added sums subject met ⌝ }
+    ensures { λ r. ⌜ r ≡ added sums subject comparison ⌝ }
 {
     let row = subject.row;
     let t = row_tally(row);
     Sums {
-        sound: sums.sound & row_fits(row) & !met.clashes & met.paired,
+        sound: sums.sound & row_fits(row) & !comparison.clashes & comparison.paired,
         legs: sums.legs + t.legs,
         joined: sums.joined + t.joined,
         links: sums.links + t.links,
@@ -155,9 +155,9 @@ pub fn count(rows: &[Row]) -> Counted
     let mut place = 0usize;
     while place < rows.len() {
         let row = rows[place];
-        let subject = Placed { row, place };
-        let met = meet_all(rows, subject);
-        sums = add(sums, subject, met);
+        let subject = RowAt { row, place };
+        let comparison = compare_with_all(rows, subject);
+        sums = add(sums, subject, comparison);
         place = place + 1;
     }
     answer(sums)

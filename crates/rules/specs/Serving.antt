@@ -18,7 +18,7 @@ use Rattle.component.specs.declared.Answer.the-variants as answer
 use Rattle.board.specs.declared.Options.{Options}
 use Rattle.board.specs.declared.Party.{Party}
 use Rattle.board.specs.Entries.{linkIdIn, isLinkId}
-use Rattle.board.specs.LinkIds.{freeLinkId}
+use Rattle.board.specs.LinkIds.{mostLinkIds, freeLinkId}
 -- what a component comes to
 pub use Rattle.rules.specs.declared.Service.{Service}
 pub use Rattle.rules.specs.declared.Service.the-variants.{Silent, Respond, AssignLinkId, Transfer}
@@ -43,10 +43,10 @@ assign i (some z) = AssignLinkId (record { 0 = z }) i
 
 -- "a call that has a LinkId gets it again (H). Else, with 16 live, e = 11. Else the first value not live from the candidate upward"
 abbrev pub newLinkId : ℕ → IntegerOctets → Option ℤ → Service
-newLinkId used i o = cond (leb 16 used) (error i 11) (assign i o)
+newLinkId used i o = cond (leb mostLinkIds used) (error i 11) (assign i o)
 
 abbrev pub linkIdRequest : ℤ → List ℤ → IntegerOctets → Option ℤ → Service
-linkIdRequest candidate used i none = newLinkId (length used) i (freeLinkId 16 candidate used)
+linkIdRequest candidate used i none = newLinkId (length used) i (freeLinkId mostLinkIds candidate used)
 linkIdRequest candidate used i (some z) = Respond (answer.LinkIdResult i (record { 0 = z }))
 
 -- ---- transfers

@@ -11,7 +11,7 @@ use lib.ListN.{length}
 use lib.IntN.{ℤ}
 use Rattle.board.specs.Counts.{links}
 use Rattle.board.specs.Entries.{linkIdOf, calls, partyOf, linkIdIn, taken}
-use Rattle.board.specs.LinkIds.{freeLinkId, liveLinkIds, optionalLinkId}
+use Rattle.board.specs.LinkIds.{mostLinkIds, freeLinkId, liveLinkIds, optionalLinkId}
 use Rattle.board.specs.Code.Tallies.{tallyOf}
 use Rattle.board.specs.declared.Connection.{Connection}
 use Rattle.board.specs.declared.Connection.the-variants.{WithUser, WithPartner}
@@ -39,20 +39,20 @@ live-is (e ∷ es) = go (e .leg) (e .connection) (live-is es)
 
 module _ (rows : List Row) (z : ℤ) (i : IntegerOctets) {t : Tally} (tally : t ≡ tallyOf rows) where
   abbrev New : Service → Type 0
-  New s = s ≡ newLinkId (length (live (calls (taken rows)))) i (freeLinkId 16 z (live (calls (taken rows))))
+  New s = s ≡ newLinkId (length (live (calls (taken rows)))) i (freeLinkId mostLinkIds z (live (calls (taken rows))))
 
   links-are : t .links ≡ length (live (calls (taken rows)))
   unfolding tallyOf
   links-are = ap (λ (x : Tally). x .links) tally ∙ sym (live-length (taken rows))
 
-  pub new-full : 16 ≤ t .links → New (error i 11)
-  new-full h = sym (ap (λ (b : Bool). cond b (error i 11) (assign i (freeLinkId 16 z (live (calls (taken rows)))))) (ap (leb 16) (sym links-are) ∙ le-leb 16 (t .links) h))
+  pub new-full : mostLinkIds ≤ t .links → New (error i 11)
+  new-full h = sym (ap (λ (b : Bool). cond b (error i 11) (assign i (freeLinkId mostLinkIds z (live (calls (taken rows)))))) (ap (leb mostLinkIds) (sym links-are) ∙ le-leb mostLinkIds (t .links) h))
 
-  module _ (h : t .links < 16) where
-    room : newLinkId (length (live (calls (taken rows)))) i (freeLinkId 16 z (live (calls (taken rows)))) ≡ assign i (freeLinkId 16 z (liveLinkIds rows))
+  module _ (h : t .links < mostLinkIds) where
+    room : newLinkId (length (live (calls (taken rows)))) i (freeLinkId mostLinkIds z (live (calls (taken rows)))) ≡ assign i (freeLinkId mostLinkIds z (liveLinkIds rows))
     room =
-        ap (λ (b : Bool). cond b (error i 11) (assign i (freeLinkId 16 z (live (calls (taken rows)))))) (ap (leb 16) (sym links-are) ∙ lt-leb 16 (t .links) h)
-        ∙ ap (λ (l : List ℤ). assign i (freeLinkId 16 z l)) (sym (live-is (taken rows)))
+        ap (λ (b : Bool). cond b (error i 11) (assign i (freeLinkId mostLinkIds z (live (calls (taken rows)))))) (ap (leb mostLinkIds) (sym links-are) ∙ lt-leb mostLinkIds (t .links) h)
+        ∙ ap (λ (l : List ℤ). assign i (freeLinkId mostLinkIds z l)) (sym (live-is (taken rows)))
 
     absent-none : (o : Option ℤ) → optionalLinkId o ≡ Absent → o ≡ none
     absent-none none e = refl
@@ -62,8 +62,8 @@ module _ (rows : List Row) (z : ℤ) (i : IntegerOctets) {t : Tally} (tally : t 
     given none e = let z : _≡_ {A = ℕ} 0 1 = cc in absurd (omega arith)
     given (some y) {id} e = let d : record { 0 = y } ≡ id = cc in ap (λ (l : LinkId). AssignLinkId l i) d
 
-    pub new-none : optionalLinkId (freeLinkId 16 z (liveLinkIds rows)) ≡ Absent → New (error i 11)
-    new-none e = sym (room ∙ ap (assign i) (absent-none (freeLinkId 16 z (liveLinkIds rows)) e))
+    pub new-none : optionalLinkId (freeLinkId mostLinkIds z (liveLinkIds rows)) ≡ Absent → New (error i 11)
+    new-none e = sym (room ∙ ap (assign i) (absent-none (freeLinkId mostLinkIds z (liveLinkIds rows)) e))
 
-    pub new-some : {id : LinkId} → optionalLinkId (freeLinkId 16 z (liveLinkIds rows)) ≡ Present id → New (AssignLinkId id i)
-    new-some e = sym (room ∙ given (freeLinkId 16 z (liveLinkIds rows)) e)
+    pub new-some : {id : LinkId} → optionalLinkId (freeLinkId mostLinkIds z (liveLinkIds rows)) ≡ Present id → New (AssignLinkId id i)
+    new-some e = sym (room ∙ given (freeLinkId mostLinkIds z (liveLinkIds rows)) e)

@@ -120,7 +120,7 @@ pub fn is_partner(options: Options, named: Party, other: Party) -> bool
 {
     let c = named.call;
     let d = other.call;
-    !(c.reference.0 == d.reference.0) & pairs(options, c, d)
+    (c.reference.0 != d.reference.0) & pairs(options, c, d)
 }
 
 fn has_partner(options: Options, named: Party, row: Row) -> bool

@@ -25,8 +25,8 @@ use Rattle.board.specs.declared.Entry.{Entry}
 use Rattle.board.specs.declared.Connection.the-variants.{WithPartner}
 use Rattle.board.specs.Entries.{entry, entryOf, rowEntry, taken, occupied, linkIdIn}
 use Rattle.board.specs.Soundness.{answersTo, partnered}
-use Rattle.row_tests.specs.Code.RowKeys.{linkNumber, callKey, keyOf, joint}
-use Rattle.soundness.specs.Code.Columns.{legIn, referenceIn, linkIn, ownIn, partnerIn, alertingIn, joints}
+use Rattle.row_tests.specs.Code.RowKeys.{linkNumber, callKey, keyOf, joinedEntry}
+use Rattle.soundness.specs.Code.Columns.{legIn, referenceIn, linkIn, ownIn, partnerIn, alertingIn, joinedEntries}
 
 -- ---- a column that is being read: its first n numbers are what f finds in the entries of the first i rows
 
@@ -208,42 +208,42 @@ repeated {ns} {i} s t = sym (distinct-drop i ns (sym (distinct-yes s eqb refl t)
 
 -- ---- three columns as entries
 
-joints-short : (ns ms : List ℕ) → joints ns [] ms ≡ []
-unfolding joints
-joints-short [] ms = refl
-joints-short (n ∷ ns) ms = refl
+joinedEntries-short : (ns ms : List ℕ) → joinedEntries ns [] ms ≡ []
+unfolding joinedEntries
+joinedEntries-short [] ms = refl
+joinedEntries-short (n ∷ ns) ms = refl
 
-joints-shorter : (ns ps : List ℕ) → joints ns ps [] ≡ []
-unfolding joints
-joints-shorter [] ps = refl
-joints-shorter (n ∷ ns) [] = refl
-joints-shorter (n ∷ ns) (p ∷ ps) = refl
+joinedEntries-shorter : (ns ps : List ℕ) → joinedEntries ns ps [] ≡ []
+unfolding joinedEntries
+joinedEntries-shorter [] ps = refl
+joinedEntries-shorter (n ∷ ns) [] = refl
+joinedEntries-shorter (n ∷ ns) (p ∷ ps) = refl
 
-drop-joints : (i : ℕ) (ns ps bs : List ℕ) → drop i (joints ns ps bs) ≡ joints (drop i ns) (drop i ps) (drop i bs)
-unfolding joints
-drop-joints zero ns ps bs = refl
-drop-joints (suc i) [] ps bs = refl
-drop-joints (suc i) (n ∷ ns) [] bs = sym (joints-short (drop i ns) (drop (suc i) bs))
-drop-joints (suc i) (n ∷ ns) (p ∷ ps) [] = sym (joints-shorter (drop i ns) (drop i ps))
-drop-joints (suc i) (n ∷ ns) (p ∷ ps) (b ∷ bs) = drop-joints i ns ps bs
+drop-joinedEntries : (i : ℕ) (ns ps bs : List ℕ) → drop i (joinedEntries ns ps bs) ≡ joinedEntries (drop i ns) (drop i ps) (drop i bs)
+unfolding joinedEntries
+drop-joinedEntries zero ns ps bs = refl
+drop-joinedEntries (suc i) [] ps bs = refl
+drop-joinedEntries (suc i) (n ∷ ns) [] bs = sym (joinedEntries-short (drop i ns) (drop (suc i) bs))
+drop-joinedEntries (suc i) (n ∷ ns) (p ∷ ps) [] = sym (joinedEntries-shorter (drop i ns) (drop i ps))
+drop-joinedEntries (suc i) (n ∷ ns) (p ∷ ps) (b ∷ bs) = drop-joinedEntries i ns ps bs
 
 -- the entry at place i of the first n
-pub step-joints : (n : ℕ) (ns ps bs : List ℕ) (i : ℕ) → n ≤ length ns → n ≤ length ps → n ≤ length bs → i < n →
-    Step (joints (take n ns) (take n ps) (take n bs)) i (joint (getD ns i 0) (getD ps i 0) (getD bs i 0))
-unfolding joints
-step-joints n ns ps bs i k l m h = record {
+pub step-joinedEntries : (n : ℕ) (ns ps bs : List ℕ) (i : ℕ) → n ≤ length ns → n ≤ length ps → n ≤ length bs → i < n →
+    Step (joinedEntries (take n ns) (take n ps) (take n bs)) i (joinedEntry (getD ns i 0) (getD ps i 0) (getD bs i 0))
+unfolding joinedEntries
+step-joinedEntries n ns ps bs i k l m h = record {
   split = rw (
-    drop-joints i (take n ns) (take n ps) (take n bs),
-    drop-joints (i + 1) (take n ns) (take n ps) (take n bs),
+    drop-joinedEntries i (take n ns) (take n ps) (take n bs),
+    drop-joinedEntries (i + 1) (take n ns) (take n ps) (take n bs),
     step-first n ns i 0 k h .split,
     step-first n ps i 0 l h .split,
     step-first n bs i 0 m h .split,
   );
 }
 
-pub past-joints : (n : ℕ) (ns ps bs : List ℕ) (i : ℕ) → n ≤ length ns → n ≤ i → Past (joints (take n ns) ps bs) i
-unfolding joints
-past-joints n ns ps bs i l h = record { rest = rw (drop-joints i (take n ns) ps bs, past-first n ns i l h .rest) }
+pub past-joinedEntries : (n : ℕ) (ns ps bs : List ℕ) (i : ℕ) → n ≤ length ns → n ≤ i → Past (joinedEntries (take n ns) ps bs) i
+unfolding joinedEntries
+past-joinedEntries n ns ps bs i l h = record { rest = rw (drop-joinedEntries i (take n ns) ps bs, past-first n ns i l h .rest) }
 
 -- ---- a loop over joined legs that tests their partners
 

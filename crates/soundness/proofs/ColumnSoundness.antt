@@ -17,11 +17,12 @@ use Rattle.board.specs.declared.Row.{Row}
 use Rattle.board.specs.declared.Entry.{Entry}
 use Rattle.board.specs.Entries.{entry, taken, linkIdOf, linked, present, isJoined, linkIds}
 use Rattle.board.specs.Soundness.{validRow, validEntry, sameNumbers, sameReferences, sameLinkIdsIn, sameLinkIds, answersTo, validPartner, partnered, soundEntries, soundRows}
+use Rattle.board.specs.LinkIds.{mostLinkIds}
 use Rattle.board.specs.Code.RowTests.{fits}
 use Rattle.board.proofs.Rows.{fits-all}
 use Rattle.row_tests.specs.Code.RowKeys.{linkNumber}
 use Rattle.row_tests.proofs.KeyLaws.{same-number, bit-one}
-use Rattle.soundness.specs.Code.Columns.{legIn, referenceIn, linkIn, joinedLeg, ownIn, partnerOf, partnerIn, alertingOf, alertingIn, joints, allPartnered}
+use Rattle.soundness.specs.Code.Columns.{legIn, referenceIn, linkIn, joinedLeg, ownIn, partnerOf, partnerIn, alertingOf, alertingIn, joinedEntries, allPartnered}
 
 -- ---- distinctness
 
@@ -61,13 +62,13 @@ links-counted es =
 abbrev joined : Entry → Bool
 joined e = isJoined (e .connection)
 
-joints-taken : (es : List Entry) → joints (pick ownIn es) (pick partnerIn es) (pick alertingIn es) ≡ keep joined es
-unfolding joints
-joints-taken [] = refl
-joints-taken (e ∷ es) = go (e .leg) (e .connection) (joints-taken es)
+joinedEntries-taken : (es : List Entry) → joinedEntries (pick ownIn es) (pick partnerIn es) (pick alertingIn es) ≡ keep joined es
+unfolding joinedEntries
+joinedEntries-taken [] = refl
+joinedEntries-taken (e ∷ es) = go (e .leg) (e .connection) (joinedEntries-taken es)
   where
-    go : (n : ℕ) (k : Connection) → joints (pick ownIn es) (pick partnerIn es) (pick alertingIn es) ≡ keep joined es →
-        joints (consOpt (joinedLeg n k) (pick ownIn es)) (consOpt (partnerOf k) (pick partnerIn es)) (consOpt (alertingOf k) (pick alertingIn es)) ≡ consIf (isJoined k) (entry n k) (keep joined es)
+    go : (n : ℕ) (k : Connection) → joinedEntries (pick ownIn es) (pick partnerIn es) (pick alertingIn es) ≡ keep joined es →
+        joinedEntries (consOpt (joinedLeg n k) (pick ownIn es)) (consOpt (partnerOf k) (pick partnerIn es)) (consOpt (alertingOf k) (pick alertingIn es)) ≡ consIf (isJoined k) (entry n k) (keep joined es)
     go n (WithUser c) h = h
     go n (WithPartner p a) h = rw (bit-one a, h)
 
@@ -113,8 +114,8 @@ pub sound-by-columns : (rows : List Row) →
     && (distinct eqb (pick legIn (taken rows))
     && (distinct eqb (pick referenceIn (taken rows))
     && (distinct eqb (pick linkIn (taken rows))
-    && (leb (length (pick linkIn (taken rows))) 16
-    && allPartnered (joints (pick ownIn (taken rows)) (pick partnerIn (taken rows)) (pick alertingIn (taken rows))))))))
+    && (leb (length (pick linkIn (taken rows))) mostLinkIds
+    && allPartnered (joinedEntries (pick ownIn (taken rows)) (pick partnerIn (taken rows)) (pick alertingIn (taken rows))))))))
 unfolding soundRows soundEntries
 sound-by-columns rows =
     rw (
@@ -123,7 +124,7 @@ sound-by-columns rows =
       ← references-distinct (taken rows),
       ← links-distinct (taken rows),
       ← links-counted (taken rows),
-      joints-taken (taken rows),
+      joinedEntries-taken (taken rows),
       ← partners-joined (taken rows),
     )
     (sym (and-assoc (all validRow rows) (all validEntry (taken rows)) _))

@@ -10,14 +10,15 @@ ghost use Rattle.octets.specs.Lists.{any, distinct};
 ghost use Rattle.board.specs.Soundness.{soundRows, sound as soundBoard};
 ghost use Rattle.board.specs.Counts.{counts, countedAnswer};
 ghost use Rattle.board.specs.Code.Tallies.{tallyOf};
-ghost use Rattle.soundness.specs.Code.Columns.{jointAt, anyAnswers, allAnswered};
+ghost use Rattle.soundness.specs.Code.Columns.{joinedLegAt, anyAnswers, allAnswered, Gathered};
 use board::Board;
 use board::Counted;
 use board::MOST_LINK_IDS;
 use board::Row;
 use board::Tally;
+use board::valid_options;
 use row_tests::is_taken;
-use row_tests::keys::Joint;
+use row_tests::keys::JoinedLeg;
 use row_tests::keys::answers;
 use row_tests::keys::row_key;
 use row_tests::row_fits;
@@ -70,11 +71,11 @@ fn places(legs: &[u32], n: usize) -> [u8; 256]
     places
 }
 
-fn joint_at(legs: &[u32], partners: &[u32], alerting: &[u32], i: usize) -> Joint
+fn joined_leg_at(legs: &[u32], partners: &[u32], alerting: &[u32], i: usize) -> JoinedLeg
     requires { ⌜ (i < length (now legs)) × (i < length (now partners)) × (i < length (now alerting)) ⌝ }
-    ensures { λ r. ⌜ r ≡ jointAt (now (legs .entry)) (now (partners .entry)) (now (alerting .entry)) i ⌝ }
+    ensures { λ r. ⌜ r ≡ joinedLegAt (now (legs .entry)) (now (partners .entry)) (now (alerting .entry)) i ⌝ }
 {
-    Joint {
+    JoinedLeg {
         leg: legs[i],
         partner: partners[i],
         alerting: alerting[i],
@@ -83,7 +84,7 @@ fn joint_at(legs: &[u32], partners: &[u32], alerting: &[u32], i: usize) -> Joint
 
 // Whether one of the first n joined legs answers to `a`; place `first` is tried before the others.
 fn is_answered(
-    a: Joint,
+    a: JoinedLeg,
     first: usize,
     legs: &[u32],
     partners: &[u32],
@@ -94,12 +95,12 @@ fn is_answered(
     ensures { λ r. ⌜ r ≡ anyAnswers a n (now (legs .entry)) (now (partners .entry)) (now (alerting .entry)) ⌝ }
 {
     if first < n {
-        if answers(a, joint_at(legs, partners, alerting, first)) {
+        if answers(a, joined_leg_at(legs, partners, alerting, first)) {
             return true;
         }
     }
     for i in 0..n {
-        if answers(a, joint_at(legs, partners, alerting, i)) {
+        if answers(a, joined_leg_at(legs, partners, alerting, i)) {
             return true;
         }
     }
@@ -113,13 +114,13 @@ fn all_joined_back(legs: &[u32], partners: &[u32], alerting: &[u32], n: usize) -
 {
     let places = places(legs, n);
     for i in 0..n {
-        let a = joint_at(legs, partners, alerting, i);
+        let a = joined_leg_at(legs, partners, alerting, i);
         if a.leg == a.partner {
             return false;
         }
         let low = (a.partner % 256) as usize;
         let first = places[low] as usize;
-        if is_answered(a, first, legs, partners, alerting, n) {} else {
+        if !is_answered(a, first, legs, partners, alerting, n) {
             return false;
         }
     }
@@ -145,51 +146,85 @@ pub fn add_up(rows: [Row; 64]) -> Tally
     }
 }
 
-pub fn sound_rows(rows: [Row; 64]) -> bool
-    ensures { λ r. ⌜ r ≡ soundRows rows ⌝ }
+// What the rows have to be compared by: each column holds as many numbers as its count says. `fit` says whether each row
+// obeys the rules by itself; where one does not, nothing is compared.
+struct Columns {
+    fit: bool,
+    taken: usize,
+    legs: [u32; 64],
+    served: usize,
+    references: [u32; 64],
+    linked: usize,
+    links: [u32; 64],
+    joined: usize,
+    own: [u32; 64],
+    partners: [u32; 64],
+    alerting: [u32; 64],
+}
+
+// The rows read into columns.
+fn gather(rows: [Row; 64]) -> Columns
+    ensures { λ r. ⌜ Gathered rows r ⌝ }
 {
-    let mut legs: [u32; 64] = [0; 64];
-    let mut references: [u32; 64] = [0; 64];
-    let mut links: [u32; 64] = [0; 64];
-    let mut own: [u32; 64] = [0; 64];
-    let mut partners: [u32; 64] = [0; 64];
-    let mut alerting: [u32; 64] = [0; 64];
-    let mut taken: usize = 0;
-    let mut served: usize = 0;
-    let mut linked: usize = 0;
-    let mut joined: usize = 0;
+    let mut columns = Columns {
+        fit: true,
+        taken: 0,
+        legs: [0; 64],
+        served: 0,
+        references: [0; 64],
+        linked: 0,
+        links: [0; 64],
+        joined: 0,
+        own: [0; 64],
+        partners: [0; 64],
+        alerting: [0; 64],
+    };
     for i in 0..64 {
         let row = rows[i];
-        if row_fits(row) {} else {
-            return false;
+        if !row_fits(row) {
+            columns.fit = false;
+            return columns;
         }
         if is_taken(row) {
             let key = row_key(row);
-            legs[taken] = row.leg;
-            references[served] = key.reference;
-            links[linked] = key.link;
-            own[joined] = row.leg;
-            partners[joined] = key.partner;
-            alerting[joined] = key.alerting;
-            taken += 1;
-            served += key.served;
-            linked += key.linked;
-            joined += key.joined;
+            columns.legs[columns.taken] = row.leg;
+            columns.references[columns.served] = key.reference;
+            columns.links[columns.linked] = key.link;
+            columns.own[columns.joined] = row.leg;
+            columns.partners[columns.joined] = key.partner;
+            columns.alerting[columns.joined] = key.alerting;
+            columns.taken += 1;
+            columns.served += key.served;
+            columns.linked += key.linked;
+            columns.joined += key.joined;
         }
     }
-    if all_differ(&legs, taken) {} else {
+    columns
+}
+
+pub fn sound_rows(rows: [Row; 64]) -> bool
+    ensures { λ r. ⌜ r ≡ soundRows rows ⌝ }
+{
+    let columns = gather(rows);
+    if !columns.fit {
         return false;
     }
-    if all_differ(&references, served) {} else {
+    if !all_differ(&columns.legs, columns.taken) {
         return false;
     }
-    if all_differ(&links, linked) {} else {
+    if !all_differ(&columns.references, columns.served) {
         return false;
     }
-    if MOST_LINK_IDS < linked {
+    if !all_differ(&columns.links, columns.linked) {
         return false;
     }
-    all_joined_back(&own, &partners, &alerting, joined)
+    if MOST_LINK_IDS < columns.linked {
+        return false;
+    }
+    let own = columns.own;
+    let partners = columns.partners;
+    let alerting = columns.alerting;
+    all_joined_back(&own, &partners, &alerting, columns.joined)
 }
 
 pub fn sound(board: Board) -> bool
@@ -197,10 +232,7 @@ pub fn sound(board: Board) -> bool
 {
     let rows = board.rows;
     let options = board.options;
-    if 1 < options.subscribed {
-        return false;
-    }
-    if 1 < options.alerting {
+    if !valid_options(options) {
         return false;
     }
     sound_rows(rows)

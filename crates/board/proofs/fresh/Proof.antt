@@ -1,35 +1,30 @@
-use mathlib.Core.Path.{ap}
+use mathlib.Core.Path.{sym, ap, _∙_}
 use borrow.Author.Needs.{needs}
-use native.Mathlib.Omega.{arith}
-use borrow.Author.Tests.{le-leb, lt-leb}
+use borrow.Author.Tests.{not-true, not-false}
 use Rattle.board.specs.declared.Board.{Board}
 use Rattle.board.specs.declared.Made.{Made}
 use Rattle.board.specs.Making.{fresh}
 use Rattle.board.proofs.fresh.Statement.{statement}
 use Rattle.board.proofs.fresh.Tie as tie
 
+valid-options-requires : tie.Need-valid-options-requires
+valid-options-requires c κs = search needs
+
 refused-requires : tie.Need-refused-requires
 refused-requires c κs = search needs
 
 returns : tie.Need-returns
 unfolding fresh
-returns c = simp (lt-leb (c .before .before .args .subscribed) 1 (omega (arith, c .before .if1 .taken))) (c .refused .ensures)
-
-refused-requires-2 : tie.Need-refused-requires-2
-refused-requires-2 c κs = search needs
-
-returns-2 : tie.Need-returns-2
-unfolding fresh
-returns-2 c = simp (le-leb (c .before .before .before .args .subscribed) 1 (omega (arith, c .before .before .if1 .left)), lt-leb (c .before .before .before .args .alerting) 1 (omega (arith, c .before .if2 .taken))) (c .refused2 .ensures)
+returns c = rw (sym (c .before .before .valid-options .ensures) ∙ not-true _ (c .before .if1 .taken)) (c .refused .ensures)
 
 empty-board-requires : tie.Need-empty-board-requires
 empty-board-requires c κs = search needs
 
-returns-3 : tie.Need-returns-3
+returns-2 : tie.Need-returns-2
 unfolding fresh
-returns-3 c =
-    simp (le-leb (c .before .before .before .args .subscribed) 1 (omega (arith, c .before .before .if1 .left)), le-leb (c .before .before .before .args .alerting) 1 (omega (arith, c .before .if2 .left)))
+returns-2 c =
+    rw (sym (c .before .before .valid-options .ensures) ∙ not-false _ (c .before .if1 .left))
     (ap {B = Made} (λ (b : Board). record { returned = 0; board = b }) (c .empty-board .ensures))
 
 pub fresh-spec : {M : Type 1} → statement M
-fresh-spec = tie.close (tie.spec refused-requires returns refused-requires-2 returns-2 empty-board-requires returns-3)
+fresh-spec = tie.close (tie.spec valid-options-requires refused-requires returns empty-board-requires returns-2)

@@ -23,12 +23,12 @@ unfoldable pub clash : Row → Row → Bool
 clash a b = hasBoth clashing (rowEntry a) (rowEntry b)
 
 -- of leg n and its connection: o is its partner's row, or it needs none
-abbrev pub answered : ℕ → Connection → Option Entry → Bool
-answered n (WithUser c) o = true
-answered n (WithPartner p a) o = not (eqb n p) && has (answersTo n p a) o
+abbrev pub partneredBy : ℕ → Connection → Option Entry → Bool
+partneredBy n (WithUser c) o = true
+partneredBy n (WithPartner p a) o = not (eqb n p) && has (answersTo n p a) o
 
 unfoldable pub paired : Row → Row → Bool
-paired a b = noneOr (λ (e : Entry). answered (e .leg) (e .connection) (rowEntry b)) (rowEntry a)
+paired a b = noneOr (λ (e : Entry). partneredBy (e .leg) (e .connection) (rowEntry b)) (rowEntry a)
 
 -- ---- what a row counts for
 

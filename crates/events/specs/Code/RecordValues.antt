@@ -1,16 +1,11 @@
 -- What the record reader's answers say; its contract is `RecordRead`.
 use Prim.Native.Nat.{ℕ, _+_, _≤_}
 use mathlib.Core.Path.{_≡_}
-use mathlib.Core.Bool.{Bool, _&&_}
 use mathlib.Core.List.{List}
-use lib.Dec.{leb}
 use lib.ListN.{length, take, drop}
 use Rattle.events.specs.declared.records.RequestHead.{RequestHead}
 use Rattle.events.specs.declared.records.RequestHead.the-variants as head
 use Rattle.events.specs.EventRecords.{Request, Malformed, Open, Progress, Hold, Release, Facility, Answer}
-
-abbrev pub isDigit : ℕ → Bool
-isDigit d = leb 48 d && leb d 57
 
 -- what r asks for, with the digits and the component that lie in the record os
 abbrev pub requestOf : RequestHead → List ℕ → Request

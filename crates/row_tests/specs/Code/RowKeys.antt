@@ -13,7 +13,7 @@ use Rattle.board.specs.declared.Connection.the-variants.{WithPartner}
 use Rattle.board.specs.declared.Entry.{Entry}
 use Rattle.board.specs.Soundness.{answersTo}
 use Rattle.row_tests.specs.declared.keys.RowKey.{RowKey}
-use Rattle.row_tests.specs.declared.keys.Joint.{Joint}
+use Rattle.row_tests.specs.declared.keys.JoinedLeg.{JoinedLeg}
 
 -- a number for each LinkId, and two LinkIds with one number are the same
 abbrev pub linkNumber : ℤ → ℕ
@@ -37,8 +37,8 @@ bothSame j m k n = eqb j 1 && (eqb k 1 && eqb m n)
 
 -- ---- joined legs
 
-abbrev pub joint : ℕ → ℕ → ℕ → Entry
-joint n p a = record { leg = n; connection = WithPartner p (eqb a 1) }
+abbrev pub joinedEntry : ℕ → ℕ → ℕ → Entry
+joinedEntry n p a = record { leg = n; connection = WithPartner p (eqb a 1) }
 
-abbrev pub answersJoint : Joint → Entry → Bool
-answersJoint a e = answersTo (a .leg) (a .partner) (eqb (a .alerting) 1) e
+abbrev pub answersJoinedLeg : JoinedLeg → Entry → Bool
+answersJoinedLeg a e = answersTo (a .leg) (a .partner) (eqb (a .alerting) 1) e

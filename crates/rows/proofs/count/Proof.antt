@@ -1,4 +1,4 @@
--- `rows::count`: a walk of its MIR, by hand. With each row the slice is handed on to `meet_all` and `add` is called; at the end `answer` is.
+-- `rows::count`: a walk of its MIR, by hand. With each row the slice is handed on to `compare_with_all` and `add` is called; at the end `answer` is.
 use mathlib.Core.Path.{_≡_, refl, ap, _∙_}
 use Prim.Native.Nat.{ℕ, _≤_, _<_, _^_, _+_}
 use native.Mathlib.Nat.{lt-trans, lt-of-le-of-lt}
@@ -32,19 +32,19 @@ use Rattle.board.specs.Making.{emptyRow}
 use Rattle.board.specs.Counts.{countedAnswer}
 use Rattle.board.proofs.Row as T
 use Rattle.board.proofs.Row.Laws as T′
-use Rattle.rows.specs.declared.Placed.{Placed}
+use Rattle.rows.specs.declared.RowAt.{RowAt}
 use Rattle.rows.specs.declared.Sums.{Sums}
-use Rattle.rows.specs.Code.Steps.{among, added, counted}
-use Rattle.rows.proofs.Placed as K
-use Rattle.rows.proofs.Placed.Laws as K′
+use Rattle.rows.specs.Code.Steps.{comparedWithAll, added, counted}
+use Rattle.rows.proofs.RowAt as K
+use Rattle.rows.proofs.RowAt.Laws as K′
 use Rattle.rows.proofs.Sums as S
 use Rattle.rows.proofs.Sums.Laws as S′
-use Rattle.rows.proofs.Types.{ARow, ACounted, APlaced, AMet, ASums, Count}
+use Rattle.rows.proofs.Types.{ARow, ACounted, ARowAt, AComparison, ASums, Count}
 use Rattle.rows.proofs.Calls.{Def, Args, Good, Answers, Back, Own, calls, leaves, walks}
 use Rattle.rows.proofs.Walks.{word, slice, var, Loop, At, Stepping, Ending, walked-rows}
 use Rattle.rows.proofs.Summing.{Summing, summing-start, summing-step, summing-end}
-use Rattle.rows.proofs.meet_all.Symbol as meet-all-def
-use Rattle.rows.proofs.meet_all.Met as meet-all-thm
+use Rattle.rows.proofs.compare_with_all.Symbol as compare-with-all-def
+use Rattle.rows.proofs.compare_with_all.Met as compare-with-all-thm
 use Rattle.rows.proofs.add.Symbol as add-def
 use Rattle.rows.proofs.add.Met as add-thm
 use Rattle.rows.proofs.answer.Symbol as answer-def
@@ -62,24 +62,24 @@ start-is : Is (ASums .row) start (ASums .val start ∷ [])
 start-is = LL.owes S.the-type S′.the-laws start (refl, ((refl, lit< tt), ((refl, lit< tt), ((refl, lit< tt), tt))))
 
 -- ---- the callees
-abbrev MeetAll : Def
-MeetAll = record { lent = true; takes = APlaced ∷ []; gives = AMet; asks = λ _ _. none; promise = λ _ a r. r ≡ among (a .1 .0) (a .0 .now) }
+abbrev CompareWithAll : Def
+CompareWithAll = record { lent = true; takes = ARowAt ∷ []; gives = AComparison; asks = λ _ _. none; promise = λ _ a r. r ≡ comparedWithAll (a .1 .0) (a .0 .now) }
 
-abbrev Fit : Sums → Placed → Type 0
+abbrev Fit : Sums → RowAt → Type 0
 Fit s p = (s .legs ≤ p .place) × (s .joined ≤ p .place) × (s .links ≤ p .place) × (p .place + 1 < 2 ^ 64)
 
 abbrev Add : Def
-Add = record { lent = false; takes = ASums ∷ APlaced ∷ AMet ∷ []; gives = ASums; asks = λ _ a. some (Fit (a .0) (a .1 .0)); promise = λ _ a r. r ≡ added (a .0) (a .1 .0) (a .1 .1 .0) }
+Add = record { lent = false; takes = ASums ∷ ARowAt ∷ AComparison ∷ []; gives = ASums; asks = λ _ a. some (Fit (a .0) (a .1 .0)); promise = λ _ a r. r ≡ added (a .0) (a .1 .0) (a .1 .1 .0) }
 
 abbrev Answer : Def
 Answer = record { lent = false; takes = ASums ∷ []; gives = ACounted; asks = λ _ _. none; promise = λ _ a r. r ≡ counted (a .0) }
 
 -- a turn, once the row is read
 abbrev mid : Body → Body
-mid rest = seq (assign (place 5 []) (aggregate (var 4 ∷ var 3 ∷ []))) (seq (call meet-all-def.name (var 1 ∷ var 5 ∷ []) (place 6 [])) (seq (call add-def.name (var 2 ∷ var 5 ∷ var 6 ∷ []) (place 2 [])) rest))
+mid rest = seq (assign (place 5 []) (aggregate (var 4 ∷ var 3 ∷ []))) (seq (call compare-with-all-def.name (var 1 ∷ var 5 ∷ []) (place 6 [])) (seq (call add-def.name (var 2 ∷ var 5 ∷ var 6 ∷ []) (place 2 [])) rest))
 
 module _ {M : Type 1} (𝓤 : URA M) (H : Heap 𝓤) (A : Atoms 𝓤) (W : Given 𝓤 H A) (𝓣 : Tables 𝓤 H)
-    (known-all : Triple 𝓤 (𝓣 .C meet-all-def.name) (Answers MeetAll 𝓤 H A)) (known : Triple 𝓤 (𝓣 .C add-def.name) (Answers Add 𝓤 H A)) (known-last : Triple 𝓤 (𝓣 .C answer-def.name) (Answers Answer 𝓤 H A)) where
+    (known-all : Triple 𝓤 (𝓣 .C compare-with-all-def.name) (Answers CompareWithAll 𝓤 H A)) (known : Triple 𝓤 (𝓣 .C add-def.name) (Answers Add 𝓤 H A)) (known-last : Triple 𝓤 (𝓣 .C answer-def.name) (Answers Answer 𝓤 H A)) where
   module _ (κs : Lft × Unit {0}) (qs : Share × Unit {0}) (a : Args Count κs) (good : Good Count κs a) (l₀ l₁ l₂ l₃ l₄ l₅ l₆ l₇ l₈ l₉ l₁₀ : ℕ) where
     abbrev ys : List Row
     ys = a .0 .now
@@ -92,32 +92,32 @@ module _ {M : Type 1} (𝓤 : URA M) (H : Heap 𝓤) (A : Atoms 𝓤) (W : Given
       gn = good .0 .0 .1;
       X = Sums;
       Known = λ i s. Summing ys i s × Is (ASums .row) s (ASums .val s ∷ []);
-      E = (ACounted .ty, l₀) ∷ (slice, l₁) ∷ (ASums .ty, l₂) ∷ (word, l₃) ∷ (T′.mir, l₄) ∷ (APlaced .ty, l₅) ∷ (AMet .ty, l₆) ∷ (word, l₇) ∷ (tyBool, l₈) ∷ (tyPtr, l₉) ∷ (T′.mir, l₁₀) ∷ [];
+      E = (ACounted .ty, l₀) ∷ (slice, l₁) ∷ (ASums .ty, l₂) ∷ (word, l₃) ∷ (T′.mir, l₄) ∷ (ARowAt .ty, l₅) ∷ (AComparison .ty, l₆) ∷ (word, l₇) ∷ (tyBool, l₈) ∷ (tyPtr, l₉) ∷ (T′.mir, l₁₀) ∷ [];
       p = 3;
       w = 7;
       laid = (refl, refl, refl, refl, refl, refl, refl);
       Rest = λ s.
-          ‵ (fat fullShare (ASums .ty) l₂ 0 (ASums .val s)) ∷ ‵ (froom (APlaced .ty) l₅ 0) ∷ ‵ (froom (AMet .ty) l₆ 0) ∷ ‵ (Own (κs .0) (a .0)) ∷ ‵ (froom (ACounted .ty) l₀ 0) ∷ ‵ (fdies (ACounted .ty) l₀) ∷ ‵ (fdies slice l₁) ∷ ‵ (fdies (ASums .ty) l₂) ∷ ‵ (fdies word l₃)
-          ∷ ‵ (fdies T′.mir l₄) ∷ ‵ (fdies (APlaced .ty) l₅) ∷ ‵ (fdies (AMet .ty) l₆) ∷ ‵ (fdies word l₇) ∷ ‵ (fdies tyBool l₈) ∷ ‵ (fdies tyPtr l₉) ∷ ‵ (fdies T′.mir l₁₀) ∷ [];
+          ‵ (fat fullShare (ASums .ty) l₂ 0 (ASums .val s)) ∷ ‵ (froom (ARowAt .ty) l₅ 0) ∷ ‵ (froom (AComparison .ty) l₆ 0) ∷ ‵ (Own (κs .0) (a .0)) ∷ ‵ (froom (ACounted .ty) l₀ 0) ∷ ‵ (fdies (ACounted .ty) l₀) ∷ ‵ (fdies slice l₁) ∷ ‵ (fdies (ASums .ty) l₂) ∷ ‵ (fdies word l₃)
+          ∷ ‵ (fdies T′.mir l₄) ∷ ‵ (fdies (ARowAt .ty) l₅) ∷ ‵ (fdies (AComparison .ty) l₆) ∷ ‵ (fdies word l₇) ∷ ‵ (fdies tyBool l₈) ∷ ‵ (fdies tyPtr l₉) ∷ ‵ (fdies T′.mir l₁₀) ∷ [];
       mid = mid;
       end = pieces.t-4;
       After = Back Count 𝓤 H A κs qs a;
     }
 
-    abbrev placed : ℕ → Placed
-    placed i = record { row = getD ys i emptyRow; place = i }
+    abbrev rowAt : ℕ → RowAt
+    rowAt i = record { row = getD ys i emptyRow; place = i }
 
-    placed-is : (i : ℕ) → i < length ys → Is T.the-row (getD ys i emptyRow) (ARow .val (getD ys i emptyRow) ∷ []) → Is (APlaced .row) (placed i) (APlaced .val (placed i) ∷ [])
-    placed-is i below is-row = LL.owes K.the-type K′.the-laws (placed i) (is-row, ((refl, lt-trans below (good .0 .0 .1 .0)), tt))
+    row-at-is : (i : ℕ) → i < length ys → Is T.the-row (getD ys i emptyRow) (ARow .val (getD ys i emptyRow) ∷ []) → Is (ARowAt .row) (rowAt i) (ARowAt .val (rowAt i) ∷ [])
+    row-at-is i below is-row = LL.owes K.the-type K′.the-laws (rowAt i) (is-row, ((refl, lt-trans below (good .0 .0 .1 .0)), tt))
 
     stepping : Stepping 𝓤 H A W 𝓣 L
     stepping i s h below is-row rest Q next =
-        assigns ! (agg ! (and-then ! (load ! (from ! (stop !)) (look ! 4 refl)) (and-then ! (load ! (from ! (stop !)) (look ! 5 refl)) (no-more !)))) (from ! (stop !)) (init ! 10 refl (APlaced .typed 𝓤 H A W (placed i) _ (placed-is i below is-row))) $
+        assigns ! (agg ! (and-then ! (load ! (from ! (stop !)) (look ! 4 refl)) (and-then ! (load ! (from ! (stop !)) (look ! 5 refl)) (no-more !)))) (from ! (stop !)) (init ! 10 refl (ARowAt .typed 𝓤 H A W (rowAt i) _ (row-at-is i below is-row))) $
         move ! (12 ∷ []) $ use1 W (‵ (Own (κs .0) (a .0)) ⊛ ‵ (Own (κs .0) (a .0))) (shr-slice-copy 𝓤 H A W (named 0) (κs .0) T.the-row .twice (a .0) (sliceVal (a .0 .ptr) (length ys) ∷ [])) $ split ! $ move ! (9 ∷ 0 ∷ []) $ join ! $
         -- [the token and what the slice owns; what the slice owns; the four locals at 2 …]
-        calls MeetAll 𝓤 H A κs qs (a .0, (placed i, tt)) ! (fmOf 𝓤 H (W .laws) 𝓣) known-all (placed-is i below is-row, tt) tt (id⊢ 𝓤 _)
+        calls CompareWithAll 𝓤 H A κs qs (a .0, (rowAt i, tt)) ! (fmOf 𝓤 H (W .laws) 𝓣) known-all (row-at-is i below is-row, tt) tt (id⊢ 𝓤 _)
         (and-then ! (load ! (from ! (stop !)) (look ! 8 refl)) (and-then ! (load ! (from ! (stop !)) (look ! 11 refl)) (no-more !))) (from ! (stop !)) (λ v ok. init ! 12 refl ok) (λ m em im.
-        nothing ! $ calls Add 𝓤 H A tt tt (s, (placed i, (m, tt))) ! (fmOf 𝓤 H (W .laws) 𝓣) known (h .1, (placed-is i below is-row, (im, tt)))
+        nothing ! $ calls Add 𝓤 H A tt tt (s, (rowAt i, (m, tt))) ! (fmOf 𝓤 H (W .laws) 𝓣) known (h .1, (row-at-is i below is-row, (im, tt)))
         (h .0 .taken-rows .within, h .0 .joined-rows .within, h .0 .linked-rows .within, lt-of-le-of-lt (add-one-le below) (good .0 .0 .1 .0)) (id⊢ 𝓤 (emp 𝓤))
         (and-then ! (load ! (from ! (stop !)) (look ! 11 refl)) (and-then ! (load ! (from ! (stop !)) (look ! 12 refl)) (and-then ! (load ! (from ! (stop !)) (look ! 13 refl)) (no-more !)))) (from ! (stop !)) (λ v ok. store ! 11 refl ok) (λ r e is.
         -- [nothing; the token; what the slice owns; the four locals at 3 …]
@@ -143,7 +143,7 @@ module _ {M : Type 1} (𝓤 : URA M) (H : Heap 𝓤) (A : Atoms 𝓤) (W : Given
       pass1 ! (init ! 18 refl (tt, (tt, (record { fits = good .0 .0 .1 .0 }, tt)))) $ pass0 ! $
       assigns ! (agg ! (and-then ! (true-lit !) (and-then ! (lit ! tt) (and-then ! (lit ! tt) (and-then ! (lit ! tt) (no-more !)))))) (from ! (stop !)) (init ! 16 refl (ASums .typed 𝓤 H A W start _ start-is)) $
       assigns ! (of-opd ! (lit ! tt)) (from ! (stop !)) (init ! 14 refl (tt, record { fits = lit< tt })) $
-      -- the slice is Copy: what it owns is kept whole, for `meet_all`, and of a copy the borrow
+      -- the slice is Copy: what it owns is kept whole, for `compare_with_all`, and of a copy the borrow
       move ! (23 ∷ []) $ fsplit ! $ use1 W (‵ (Own (κs .0) (a .0)) ⊛ ‵ (Own (κs .0) (a .0))) (shr-slice-copy 𝓤 H A W (named 0) (κs .0) T.the-row .twice (a .0) (sliceVal (a .0 .ptr) (length (a .0 .now)) ∷ [])) $ split ! $ fsplit ! $ drop ! $ fsplit ! $ drop ! $
       -- [the borrow; what the slice owns; true; _10 at 3 …; the token at 25]
       move ! (25 ∷ []) $ split ! $
@@ -156,6 +156,6 @@ count-spec 𝓤 H 𝓜 𝓖 𝓡 =
     entered 𝓤 H (Answers Count 𝓤 H (𝓖 .A))
     (tables 𝓤 H 𝓜 𝓡 code.env .C) (tables 𝓤 H 𝓜 𝓡 code.env .Λ) #rows·count code.function (code.unfolded 𝓤 H 𝓜 𝓡)
     (count-meets 𝓤 H (𝓖 .A) (givenOf 𝓤 H 𝓜 𝓖) (tablesOf 𝓤 H 𝓜 (tables 𝓤 H 𝓜 𝓡 code.env))
-    (cited 𝓤 H (Answers MeetAll 𝓤 H (𝓖 .A)) 𝓜 𝓡 code.env meet-all-def.name meet-all-def.routine code.calls-rows·meet-all (meet-all-thm.met 𝓤 H 𝓜 𝓖 𝓡))
+    (cited 𝓤 H (Answers CompareWithAll 𝓤 H (𝓖 .A)) 𝓜 𝓡 code.env compare-with-all-def.name compare-with-all-def.routine code.calls-rows·compare-with-all (compare-with-all-thm.met 𝓤 H 𝓜 𝓖 𝓡))
     (cited 𝓤 H (Answers Add 𝓤 H (𝓖 .A)) 𝓜 𝓡 code.env add-def.name add-def.routine code.calls-rows·add (add-thm.met 𝓤 H 𝓜 𝓖 𝓡))
     (cited 𝓤 H (Answers Answer 𝓤 H (𝓖 .A)) 𝓜 𝓡 code.env answer-def.name answer-def.routine code.calls-rows·answer (answer-thm.met 𝓤 H 𝓜 𝓖 𝓡)))

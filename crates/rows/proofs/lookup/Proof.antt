@@ -1,4 +1,4 @@
--- `rows::lookup`: a walk that keeps what is found, by `see`.
+-- `rows::lookup`: a walk that keeps what is found, by `lookup_step`.
 use mathlib.Core.Path.{_≡_, refl, ap, _∙_}
 use Prim.Native.Nat.{ℕ, suc}
 use mathlib.Core.Bool.{Bool, true, false, cond}
@@ -18,18 +18,18 @@ use Rattle.board.specs.Lookup.{hasCallOf, foundAt, foundAnswer, lookup as looku
 use Rattle.board.proofs.Answers.{lookup-answer}
 use Rattle.board.proofs.Found as S
 use Rattle.board.proofs.Found.Laws as S′
-use Rattle.rows.specs.Code.Steps.{seen}
+use Rattle.rows.specs.Code.Steps.{lookupStep}
 use Rattle.rows.proofs.Types.{AFound, AReference}
 use Rattle.rows.proofs.Calls.{Answers}
 use Rattle.rows.proofs.Folds.{Fold, folded, Next, Whole, fold-meets}
-use Rattle.rows.proofs.see.Symbol as see-def
-use Rattle.rows.proofs.see.Met as see-thm
+use Rattle.rows.proofs.lookup_step.Symbol as lookup-step-def
+use Rattle.rows.proofs.lookup_step.Met as lookup-step-thm
 use Rattle.rows.proofs.lookup.Key.{name as #rows·lookup}
 use Rattle.rows.proofs.lookup.Statement as stated
 use Rattle.rows.proofs.lookup.Code as code
 
 abbrev fold : Fold AFound AReference
-fold = record { begun = Nothing; begun-is = EL.owes S.the-type S′.the-laws Nothing tt; step = λ s row k i. seen (k .0) s row i; promise = λ k ys r. foundAnswer r ≡ lookupRows (k .0) ys }
+fold = record { begun = Nothing; begun-is = EL.owes S.the-type S′.the-laws Nothing tt; step = λ s row k i. lookupStep (k .0) s row i; promise = λ k ys r. foundAnswer r ≡ lookupRows (k .0) ys }
 
 -- what is found stays; else it is what the rows from here on have
 module _ (k : CallReference) where
@@ -54,6 +54,6 @@ unfolding code.routine tablesOf
 lookup-spec 𝓤 H 𝓜 𝓖 𝓡 =
     entered 𝓤 H (Answers (Whole AFound AReference fold) 𝓤 H (𝓖 .A))
     (tables 𝓤 H 𝓜 𝓡 code.env .C) (tables 𝓤 H 𝓜 𝓡 code.env .Λ) #rows·lookup code.function (code.unfolded 𝓤 H 𝓜 𝓡)
-    (fold-meets AFound AReference fold see-def.name (aggregate (int w8 1 ∷ [])) 𝓤 H (𝓖 .A) (givenOf 𝓤 H 𝓜 𝓖) (tablesOf 𝓤 H 𝓜 (tables 𝓤 H 𝓜 𝓡 code.env))
-    (cited 𝓤 H (Answers (Next AFound AReference fold) 𝓤 H (𝓖 .A)) 𝓜 𝓡 code.env see-def.name see-def.routine code.calls-rows·see (see-thm.met 𝓤 H 𝓜 𝓖 𝓡))
+    (fold-meets AFound AReference fold lookup-step-def.name (aggregate (int w8 1 ∷ [])) 𝓤 H (𝓖 .A) (givenOf 𝓤 H 𝓜 𝓖) (tablesOf 𝓤 H 𝓜 (tables 𝓤 H 𝓜 𝓡 code.env))
+    (cited 𝓤 H (Answers (Next AFound AReference fold) 𝓤 H (𝓖 .A)) 𝓜 𝓡 code.env lookup-step-def.name lookup-step-def.routine code.calls-rows·lookup-step (lookup-step-thm.met 𝓤 H 𝓜 𝓖 𝓡))
     total (λ Γ E. agg ! (and-then ! (lit ! tt) (no-more !))))

@@ -17,7 +17,7 @@ use Rattle.board.specs.declared.Board.{Board}
 use Rattle.board.specs.declared.Entry.{Entry}
 use Rattle.board.specs.declared.Party.{Party}
 use Rattle.board.specs.Entries.{taken, calls}
-use Rattle.board.specs.LinkIds.{freeLinkId}
+use Rattle.board.specs.LinkIds.{mostLinkIds, freeLinkId}
 use Rattle.rules.specs.Serving.{partnerFor, live, hasLinkId, perform}
 use Rattle.rules.specs.declared.Service.{Service}
 
@@ -42,7 +42,7 @@ partiesOf b = calls (entriesOf b)
 
 -- the LinkId that a request for one would give
 abbrev pub freeIn : Board → Option ℤ
-freeIn b = freeLinkId 16 (b .candidate .0) (live (partiesOf b))
+freeIn b = freeLinkId mostLinkIds (b .candidate .0) (live (partiesOf b))
 
 -- the calls that pair with a named one; the call with a LinkId
 abbrev pub pairedOn : Board → Party → List Party

@@ -4,15 +4,16 @@ use Rattle.soundness.proofs.all_joined_back.Tie as tie
 use Prim.Native.Nat.{_≤_, _-_}
 use mathlib.Core.Path.{_≡_, refl, _∙_}
 use native.Mathlib.Omega.{arith}
+use borrow.Author.Tests.{not-true, not-false}
 use lib.ListN.{take, drop}
 use Rattle.octets.specs.Lists.{all}
 use Rattle.octets.proofs.Loops.{all-end}
 use Rattle.board.specs.Soundness.{partnered}
-use Rattle.soundness.specs.Code.Columns.{joints, allPartnered}
-use Rattle.soundness.proofs.ColumnLaws.{step-joints, past-joints, partner-itself, partner-found, partner-missed}
+use Rattle.soundness.specs.Code.Columns.{joinedEntries, allPartnered}
+use Rattle.soundness.proofs.ColumnLaws.{step-joinedEntries, past-joinedEntries, partner-itself, partner-found, partner-missed}
 
 abbrev Inv-loop : tie.InvT-loop
-Inv-loop legs partners alerting n places i₀ i = (i ≤ n) × (all (partnered (joints (take n legs) (take n partners) (take n alerting))) (drop i (joints (take n legs) (take n partners) (take n alerting))) ≡ allPartnered (joints (take n legs) (take n partners) (take n alerting)))
+Inv-loop legs partners alerting n places i₀ i = (i ≤ n) × (all (partnered (joinedEntries (take n legs) (take n partners) (take n alerting))) (drop i (joinedEntries (take n legs) (take n partners) (take n alerting))) ≡ allPartnered (joinedEntries (take n legs) (take n partners) (take n alerting)))
 
 abbrev μ-loop : tie.MeasureT-loop
 μ-loop legs partners alerting n places i₀ i = n - i
@@ -23,15 +24,15 @@ places-requires c κs = search needs
 loop-holds : tie.Need-loop-holds Inv-loop μ-loop
 loop-holds c = (search needs, refl)
 
-joint-at-requires : tie.Need-joint-at-requires Inv-loop μ-loop
-joint-at-requires c κs = search needs
+joined-leg-at-requires : tie.Need-joined-leg-at-requires Inv-loop μ-loop
+joined-leg-at-requires c κs = search needs
 
 returns : tie.Need-returns Inv-loop μ-loop
 returns c =
     let v = c .before .before .before .before .before .before .before .before .before .args in
     let i = c .before .before .before .before .loop .i in
-    let s = step-joints (v .n) (v .legs .now) (v .partners .now) (v .alerting .now) i (omega arith) (omega arith) (omega arith) (omega arith) in
-    partner-itself s (c .before .before .before .before .loop .inv .1) (rw (c .before .before .joint-at .ensures) at (c .if1 .taken))
+    let s = step-joinedEntries (v .n) (v .legs .now) (v .partners .now) (v .alerting .now) i (omega arith) (omega arith) (omega arith) (omega arith) in
+    partner-itself s (c .before .before .before .before .loop .inv .1) (rw (c .before .before .joined-leg-at .ensures) at (c .if1 .taken))
 
 cast-low : tie.Need-cast-low Inv-loop μ-loop
 cast-low c = search needs
@@ -49,8 +50,8 @@ returns-2 : tie.Need-returns-2 Inv-loop μ-loop
 returns-2 c =
     let v = c .before .before .before .before .before .before .before .before .before .before .before .before .args in
     let i = c .before .before .before .before .before .before .before .loop .i in
-    let s = step-joints (v .n) (v .legs .now) (v .partners .now) (v .alerting .now) i (omega arith) (omega arith) (omega arith) (omega arith) in
-    partner-missed s (c .before .before .before .before .before .before .before .loop .inv .1) (rw (c .before .before .before .before .before .joint-at .ensures) at (c .before .before .before .if1 .left)) (rw (c .before .before .before .before .before .joint-at .ensures) at (c .before .is-answered .ensures)) (c .if2 .left)
+    let s = step-joinedEntries (v .n) (v .legs .now) (v .partners .now) (v .alerting .now) i (omega arith) (omega arith) (omega arith) (omega arith) in
+    partner-missed s (c .before .before .before .before .before .before .before .loop .inv .1) (rw (c .before .before .before .before .before .joined-leg-at .ensures) at (c .before .before .before .if1 .left)) (rw (c .before .before .before .before .before .joined-leg-at .ensures) at (c .before .is-answered .ensures)) (not-true _ (c .if2 .taken))
 
 add-i : tie.Need-add-i Inv-loop μ-loop
 add-i c = search needs
@@ -62,13 +63,13 @@ loop-again : tie.Need-loop-again Inv-loop μ-loop
 loop-again c =
     let v = c .before .before .before .before .before .before .before .before .before .before .before .before .args in
     let i = c .before .before .before .before .before .before .before .loop .i in
-    let s = step-joints (v .n) (v .legs .now) (v .partners .now) (v .alerting .now) i (omega arith) (omega arith) (omega arith) (omega arith) in
-    (search needs, partner-found s (c .before .before .before .before .before .before .before .loop .inv .1) (rw (c .before .before .before .before .before .joint-at .ensures) at (c .before .before .before .if1 .left)) (rw (c .before .before .before .before .before .joint-at .ensures) at (c .before .is-answered .ensures)) (c .if2 .taken))
+    let s = step-joinedEntries (v .n) (v .legs .now) (v .partners .now) (v .alerting .now) i (omega arith) (omega arith) (omega arith) (omega arith) in
+    (search needs, partner-found s (c .before .before .before .before .before .before .before .loop .inv .1) (rw (c .before .before .before .before .before .joined-leg-at .ensures) at (c .before .before .before .if1 .left)) (rw (c .before .before .before .before .before .joined-leg-at .ensures) at (c .before .is-answered .ensures)) (not-false _ (c .if2 .left)))
 
 returns-3 : tie.Need-returns-3 Inv-loop μ-loop
 returns-3 c =
     let v = c .before .before .before .before .before .before .args in
-    all-end (past-joints (v .n) (v .legs .now) _ _ (c .before .loop .i) (omega arith) (omega arith)) _ ∙ c .before .loop .inv .1
+    all-end (past-joinedEntries (v .n) (v .legs .now) _ _ (c .before .loop .i) (omega arith) (omega arith)) _ ∙ c .before .loop .inv .1
 
 pub all-joined-back-spec : {M : Type 1} → statement M
 all-joined-back-spec =
@@ -78,7 +79,7 @@ all-joined-back-spec =
     μ-loop
     places-requires
     loop-holds
-    joint-at-requires
+    joined-leg-at-requires
     returns
     cast-low
     array-read-first

@@ -5,7 +5,7 @@ use mathlib.Core.Path.{_≡_, refl, _∙_}
 use lib.ListN.{length, drop}
 use borrow.Author.Needs.{needs}
 use Rattle.octets.specs.Lists.{all}
-use Rattle.events.specs.Code.RecordValues.{isDigit}
+use Rattle.board.specs.Soundness.{isDigit}
 use Rattle.events.proofs.RecordLaws.{digit-at, low-at, high-at, all-end}
 use Rattle.events.proofs.records.all_digits.Statement.{statement}
 use Rattle.events.proofs.records.all_digits.Tie as tie
