@@ -15,19 +15,20 @@ use lib.Seq.{drop-cons, take-all}
 use Rattle.octets.specs.declared.CallReference.{CallReference}
 use Rattle.octets.specs.declared.LinkId.{LinkId}
 use Rattle.octets.specs.Lists.{any, find, pick, placeFrom, orElse}
-use Rattle.octets.proofs.Lists.{testOpt, is-not, any-ext}
-use Rattle.octets.proofs.Places.{told, Lowest, place-cons, place-lowest, place-none, place-some, none-place, place-ext, pickAt, pickOpt, find-pick, any-pick, pick-pick}
+use Rattle.octets.proofs.Lists.{is-not, any-ext}
+use Rattle.octets.proofs.Places.{told, Lowest, place-cons, place-lowest, place-none, place-some, none-place, place-ext, pickAt, find-pick, any-pick, pick-pick}
 use Rattle.board.specs.declared.Standing.{Standing}
 use Rattle.board.specs.declared.Standing.the-variants.{Empty, Served, Joined}
 use Rattle.board.specs.declared.Row.{Row}
 use Rattle.board.specs.declared.Found.the-variants.{At, Nothing}
 use Rattle.board.specs.declared.finding.Key.{Key}
 use Rattle.board.specs.declared.finding.Key.the-variants as key
-use Rattle.board.specs.Entries.{Entry, Party, entryOf, rowEntry, taken, occupied, partyOf, calls, hasLeg, hasReference, linkIdIn, isLinkId, hasLinkId}
+use Rattle.board.specs.Entries.{Entry, Party, entryOf, rowEntry, taken, occupied, partyOf, calls, hasLeg, hasReference, linkIdIn, isLinkId, hasLinkId, rowParty, hasPartyReference, hasPartyLinkId}
 use Rattle.board.specs.Lookup.{isCallOf, foundAt}
-use Rattle.board.specs.Code.Keys.{linkOf, isEmpty, matchesKey}
+use Rattle.board.specs.Code.Keys.{isEmpty, matchesKey, hasLinkIdOf}
 use Rattle.board.specs.Making.{emptyRow}
 use Rattle.board.specs.Changes.{enter, enterAt, full}
+use Rattle.octets.specs.Tests.{has, bindOption}
 
 -- ---- the answer of a search
 
@@ -104,33 +105,33 @@ key-somewhere k rows i e = place-some (matchesKey k) rows i (found-at (placeFrom
 
 -- ---- the entry that the definitions look up is that of the row found
 
-pub leg-test : (n : ℕ) (row : Row) → testOpt (hasLeg n) (rowEntry row) ≡ matchesKey (key.Leg n) row
+pub leg-test : (n : ℕ) (row : Row) → has (hasLeg n) (rowEntry row) ≡ matchesKey (key.Leg n) row
 leg-test n row = go (row .standing)
   where
-    go : (s : Standing) → testOpt (hasLeg n) (entryOf (row .leg) s) ≡ (occupied s && eqb n (row .leg))
+    go : (s : Standing) → has (hasLeg n) (entryOf (row .leg) s) ≡ (occupied s && eqb n (row .leg))
     go Empty = refl
     go (Served c) = refl
     go (Joined p a) = refl
 
-pub reference-test : (r : CallReference) (row : Row) → testOpt (hasReference (r .0)) (rowEntry row) ≡ matchesKey (key.Reference r) row
+pub reference-test : (r : CallReference) (row : Row) → has (hasReference (r .0)) (rowEntry row) ≡ matchesKey (key.Reference r) row
 reference-test r row = go (row .standing)
   where
-    go : (s : Standing) → testOpt (hasReference (r .0)) (entryOf (row .leg) s) ≡ isCallOf (r .0) s
+    go : (s : Standing) → has (hasReference (r .0)) (entryOf (row .leg) s) ≡ isCallOf (r .0) s
     go Empty = refl
     go (Served c) = refl
     go (Joined p a) = refl
 
-pub linkId-test : (l : LinkId) (row : Row) → testOpt (hasLinkId (l .0)) (rowEntry row) ≡ matchesKey (key.LinkId l) row
+pub linkId-test : (l : LinkId) (row : Row) → has (hasLinkId (l .0)) (rowEntry row) ≡ matchesKey (key.LinkId l) row
 linkId-test l row = go (row .standing)
   where
-    go : (s : Standing) → testOpt (hasLinkId (l .0)) (entryOf (row .leg) s) ≡ isLinkId (l .0) (linkIdIn (linkOf s))
+    go : (s : Standing) → has (hasLinkId (l .0)) (entryOf (row .leg) s) ≡ hasLinkIdOf (l .0) s
     go Empty = refl
     go (Served c) = refl
     go (Joined p a) = refl
 
-entry-found : (q : Entry → Bool) (p : Row → Bool) (rows : List Row) (d : Row) → ((row : Row) → testOpt q (rowEntry row) ≡ p row) →
+entry-found : (q : Entry → Bool) (p : Row → Bool) (rows : List Row) (d : Row) → ((row : Row) → has q (rowEntry row) ≡ p row) →
     find q (taken rows) ≡ pickAt rowEntry d rows (placeFrom p 0 rows)
-entry-found q p rows d f = find-pick q rowEntry d rows ∙ ap (pickAt rowEntry d rows) (place-ext (λ (row : Row). testOpt q (rowEntry row)) p 0 rows f)
+entry-found q p rows d f = find-pick q rowEntry d rows ∙ ap (pickAt rowEntry d rows) (place-ext (λ (row : Row). has q (rowEntry row)) p 0 rows f)
 
 pub entry-by-leg : (n : ℕ) (rows : List Row) (d : Row) → find (hasLeg n) (taken rows) ≡ pickAt rowEntry d rows (placeFrom (matchesKey (key.Leg n)) 0 rows)
 entry-by-leg n rows d = entry-found (hasLeg n) (matchesKey (key.Leg n)) rows d (leg-test n)
@@ -154,8 +155,8 @@ leg-nowhere n rows e = entry-by-leg n rows emptyRow ∙ ap (pickAt rowEntry empt
 
 -- ---- some entry has a leg, a reference or a LinkId where some row has it
 
-any-entry : (q : Entry → Bool) (p : Row → Bool) (rows : List Row) → ((row : Row) → testOpt q (rowEntry row) ≡ p row) → any q (taken rows) ≡ any p rows
-any-entry q p rows f = any-pick q rowEntry rows ∙ any-ext (λ (row : Row). testOpt q (rowEntry row)) p rows f
+any-entry : (q : Entry → Bool) (p : Row → Bool) (rows : List Row) → ((row : Row) → has q (rowEntry row) ≡ p row) → any q (taken rows) ≡ any p rows
+any-entry q p rows f = any-pick q rowEntry rows ∙ any-ext (λ (row : Row). has q (rowEntry row)) p rows f
 
 pub any-leg : (n : ℕ) (rows : List Row) → any (hasLeg n) (taken rows) ≡ any (matchesKey (key.Leg n)) rows
 any-leg n rows = any-entry (hasLeg n) (matchesKey (key.Leg n)) rows (leg-test n)
@@ -168,36 +169,26 @@ any-linkId l rows = any-entry (hasLinkId (l .0)) (matchesKey (key.LinkId l)) row
 
 -- ---- the party that the definitions look up is that of the row found
 
--- the party of a row with a call
-abbrev pub rowParty : Row → Option Party
-rowParty row = pickOpt (λ (e : Entry). partyOf (e .leg) (e .connection)) (rowEntry row)
-
-abbrev pub hasPartyReference : ℕ → Party → Bool
-hasPartyReference n p = eqb n (p .call .reference .0)
-
-abbrev pub hasPartyLinkId : ℤ → Party → Bool
-hasPartyLinkId z p = isLinkId z (linkIdIn (p .call .link))
-
 pub calls-of-rows : (rows : List Row) → calls (taken rows) ≡ pick rowParty rows
 calls-of-rows rows = pick-pick (λ (e : Entry). partyOf (e .leg) (e .connection)) rowEntry rows
 
-party-found : (q : Party → Bool) (p : Row → Bool) (rows : List Row) (d : Row) → ((row : Row) → testOpt q (rowParty row) ≡ p row) →
+party-found : (q : Party → Bool) (p : Row → Bool) (rows : List Row) (d : Row) → ((row : Row) → has q (rowParty row) ≡ p row) →
     find q (calls (taken rows)) ≡ pickAt rowParty d rows (placeFrom p 0 rows)
 party-found q p rows d f =
-    ap (find q) (calls-of-rows rows) ∙ find-pick q rowParty d rows ∙ ap (pickAt rowParty d rows) (place-ext (λ (row : Row). testOpt q (rowParty row)) p 0 rows f)
+    ap (find q) (calls-of-rows rows) ∙ find-pick q rowParty d rows ∙ ap (pickAt rowParty d rows) (place-ext (λ (row : Row). has q (rowParty row)) p 0 rows f)
 
-party-reference-test : (r : CallReference) (row : Row) → testOpt (hasPartyReference (r .0)) (rowParty row) ≡ matchesKey (key.Reference r) row
+party-reference-test : (r : CallReference) (row : Row) → has (hasPartyReference (r .0)) (rowParty row) ≡ matchesKey (key.Reference r) row
 party-reference-test r row = go (row .standing)
   where
-    go : (s : Standing) → testOpt (hasPartyReference (r .0)) (pickOpt (λ (e : Entry). partyOf (e .leg) (e .connection)) (entryOf (row .leg) s)) ≡ isCallOf (r .0) s
+    go : (s : Standing) → has (hasPartyReference (r .0)) (bindOption (λ (e : Entry). partyOf (e .leg) (e .connection)) (entryOf (row .leg) s)) ≡ isCallOf (r .0) s
     go Empty = refl
     go (Served c) = refl
     go (Joined p a) = refl
 
-party-linkId-test : (l : LinkId) (row : Row) → testOpt (hasPartyLinkId (l .0)) (rowParty row) ≡ matchesKey (key.LinkId l) row
+party-linkId-test : (l : LinkId) (row : Row) → has (hasPartyLinkId (l .0)) (rowParty row) ≡ matchesKey (key.LinkId l) row
 party-linkId-test l row = go (row .standing)
   where
-    go : (s : Standing) → testOpt (hasPartyLinkId (l .0)) (pickOpt (λ (e : Entry). partyOf (e .leg) (e .connection)) (entryOf (row .leg) s)) ≡ isLinkId (l .0) (linkIdIn (linkOf s))
+    go : (s : Standing) → has (hasPartyLinkId (l .0)) (bindOption (λ (e : Entry). partyOf (e .leg) (e .connection)) (entryOf (row .leg) s)) ≡ hasLinkIdOf (l .0) s
     go Empty = refl
     go (Served c) = refl
     go (Joined p a) = refl

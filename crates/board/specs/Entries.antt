@@ -19,6 +19,7 @@ use Rattle.board.specs.declared.FoundEntry.{FoundEntry}
 use Rattle.board.specs.declared.FoundEntry.the-variants as found-entry
 use Rattle.board.specs.declared.FoundParty.{FoundParty}
 use Rattle.board.specs.declared.FoundParty.the-variants as found-party
+use Rattle.octets.specs.Tests.{bindOption}
 -- "one standing: a call with the served user, .. or joined, carrying the partner's leg and whether this leg still alerts"
 pub use Rattle.board.specs.declared.Connection.{Connection}
 pub use Rattle.board.specs.declared.Connection.the-variants.{WithUser, WithPartner}
@@ -53,6 +54,9 @@ abbrev pub partyOf : ℕ → Connection → Option Party
 partyOf leg (WithUser c) = some (record { leg = leg; call = c })
 partyOf leg (WithPartner p a) = none
 
+abbrev pub rowParty : Row → Option Party
+rowParty r = bindOption (λ (e : Entry). partyOf (e .leg) (e .connection)) (rowEntry r)
+
 abbrev pub calls : List Entry → List Party
 calls es = pick (λ (e : Entry). partyOf (e .leg) (e .connection)) es
 
@@ -86,6 +90,12 @@ isLinkId z (some y) = sameInteger z y
 
 abbrev pub hasLinkId : ℤ → Entry → Bool
 hasLinkId z e = isLinkId z (linkIdOf (e .connection))
+
+abbrev pub hasPartyReference : ℕ → Party → Bool
+hasPartyReference n p = eqb n (p .call .reference .0)
+
+abbrev pub hasPartyLinkId : ℤ → Party → Bool
+hasPartyLinkId z p = isLinkId z (linkIdIn (p .call .link))
 
 abbrev pub present : Option ℤ → Bool
 present none = false

@@ -8,16 +8,15 @@ use Rattle.octets.specs.Lists.{any, pick}
 use Rattle.octets.specs.Numbers.{sameInteger, nextLinkId}
 use Rattle.board.specs.declared.OptionalLinkId.{OptionalLinkId}
 use Rattle.board.specs.declared.OptionalLinkId.the-variants.{Absent, Present}
-use Rattle.board.specs.declared.Row.{Row}
-use Rattle.board.specs.Entries.{Entry, taken, linkIdOf}
+use Rattle.board.specs.Entries.{Party, linkIdIn}
 
 -- "live LinkIds are distinct and at most 16 (H)"
 abbrev pub mostLinkIds : ℕ
 mostLinkIds = 16
 
 -- the term "live LinkIds": those of the calls with the served user
-abbrev pub liveLinkIds : List Row → List ℤ
-liveLinkIds rows = pick (λ (e : Entry). linkIdOf (e .connection)) (taken rows)
+abbrev pub live : List Party → List ℤ
+live ps = pick (λ (p : Party). linkIdIn (p .call .link)) ps
 
 abbrev pub unlessLive : Bool → ℤ → Option ℤ → Option ℤ
 unlessLive true z later = later

@@ -1,10 +1,10 @@
 // Finding rows of the board, by every key that the rules look a row up by.
 ghost use mathlib.Core.Path.{_≡_};
 ghost use Rattle.octets.specs.Lists.{placeFrom, find as findIn};
-ghost use Rattle.board.specs.Entries.{occupied, linkIdIn, isLinkId};
+ghost use Rattle.board.specs.Entries.{occupied, taken, calls, linkIdIn, isLinkId};
 ghost use Rattle.board.specs.Lookup.{isCallOf, foundAt, foundRow, foundAnswer, lookup as lookupRows};
-ghost use Rattle.board.specs.Code.Keys.{linkOf, matchesKey, surveyOf};
-ghost use Rattle.board.specs.LinkIds.{mostLinkIds, liveLinkIds, freeLinkId, optionalLinkId};
+ghost use Rattle.board.specs.Code.Keys.{hasLinkIdOf, matchesKey, surveyOf};
+ghost use Rattle.board.specs.LinkIds.{mostLinkIds, live, freeLinkId, optionalLinkId};
 use crate::Board;
 use crate::Found;
 use crate::MOST_LINK_IDS;
@@ -50,26 +50,25 @@ pub fn is_call_of(standing: Standing, reference: CallReference) -> bool
     }
 }
 
-// The LinkId of the call, if there is a call and it has one.
-fn link_of(standing: Standing) -> OptionalLinkId
-    ensures { λ r. ⌜ r ≡ linkOf standing ⌝ }
-{
-    match standing {
-        Standing::Empty => OptionalLinkId::Absent,
-        Standing::Served(call) => {
-            let link = call.link;
-            link
-        }
-        Standing::Joined { .. } => OptionalLinkId::Absent,
-    }
-}
-
 fn is_link_id(link: OptionalLinkId, id: LinkId) -> bool
     ensures { λ r. ⌜ r ≡ isLinkId (id .0) (linkIdIn link) ⌝ }
 {
     match link {
         OptionalLinkId::Absent => false,
         OptionalLinkId::Present(own) => id.to_integer().same(own.to_integer()),
+    }
+}
+
+fn has_link_id(standing: Standing, id: LinkId) -> bool
+    ensures { λ r. ⌜ r ≡ hasLinkIdOf (id .0) standing ⌝ }
+{
+    match standing {
+        Standing::Empty => false,
+        Standing::Served(call) => {
+            let link = call.link;
+            is_link_id(link, id)
+        }
+        Standing::Joined { .. } => false,
     }
 }
 
@@ -80,7 +79,7 @@ fn matches(row: Row, key: Key) -> bool
     match key {
         Key::Reference(reference) => is_call_of(standing, reference),
         Key::Leg(leg) => is_occupied(standing) & (leg == row.leg),
-        Key::LinkId(id) => is_link_id(link_of(standing), id),
+        Key::LinkId(id) => has_link_id(standing, id),
         Key::Empty => !is_occupied(standing),
     }
 }
@@ -139,7 +138,7 @@ pub fn lookup(board: Board, reference: CallReference) -> Found
 
 // The first LinkId that is not live, from `first` upward. With fewer than the most live, one of that many values is free.
 fn free_from(board: Board, first: LinkId) -> OptionalLinkId
-    ensures { λ r. ⌜ r ≡ optionalLinkId (freeLinkId mostLinkIds (first .0) (liveLinkIds (board .rows))) ⌝ }
+    ensures { λ r. ⌜ r ≡ optionalLinkId (freeLinkId mostLinkIds (first .0) (live (calls (taken (board .rows))))) ⌝ }
 {
     let mut id = first;
     for k in 0..MOST_LINK_IDS {
@@ -153,7 +152,7 @@ fn free_from(board: Board, first: LinkId) -> OptionalLinkId
 
 // The LinkId that the board gives next.
 pub fn free_link_id(board: Board) -> OptionalLinkId
-    ensures { λ r. ⌜ r ≡ optionalLinkId (freeLinkId mostLinkIds (board .candidate .0) (liveLinkIds (board .rows))) ⌝ }
+    ensures { λ r. ⌜ r ≡ optionalLinkId (freeLinkId mostLinkIds (board .candidate .0) (live (calls (taken (board .rows))))) ⌝ }
 {
     let candidate = board.candidate;
     free_from(board, candidate)

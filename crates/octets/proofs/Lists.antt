@@ -10,6 +10,7 @@ use mathlib.Core.Option.{none, some, Option}
 use lib.Dec.{T, eqb, eqb→eq, eqb-refl}
 use lib.ListN.{length}
 use Rattle.octets.specs.Lists.{any, all, consIf, keep, find, orElse, consOpt, only, pick, distinct}
+use Rattle.octets.specs.Tests.{has}
 
 -- ---- Bools
 
@@ -367,9 +368,6 @@ module _ {B : Type 0} where
   consOpt-later none m = m
   consOpt-later (some z) m = List·Memᴰ·tail m
 
-  abbrev pub testOpt : (B → Bool) → Option B → Bool
-  testOpt p none = false
-  testOpt p (some y) = p y
 
 module _ {A B : Type 0} where
   pub pick-mem : (f : A → Option B) (l : List A) {y : B} → List·Memᴰ y (pick f l) → (x : A) × List·Memᴰ x l × (f x ≡ some y)
@@ -389,7 +387,7 @@ module _ {A B : Type 0} where
   mem-pick f (List·Memᴰ·tail {x = x} m) h = consOpt-later (f x) (mem-pick f m h)
 
   -- what is kept of a pick comes from what is kept of the list
-  pub keep-pick-le : (p : B → Bool) (f : A → Option B) (q : A → Bool) (l : List A) → ((x : A) → testOpt p (f x) ≡ q x) →
+  pub keep-pick-le : (p : B → Bool) (f : A → Option B) (q : A → Bool) (l : List A) → ((x : A) → has p (f x) ≡ q x) →
       length (keep p (pick f l)) ≤ length (keep q l)
   keep-pick-le p f q [] h = zero-le
   keep-pick-le p f q (x ∷ l) h = go (f x) (q x) (h x) (keep-pick-le p f q l h)
@@ -404,7 +402,7 @@ module _ {A B : Type 0} where
       skip true k = le-step k
       skip false k = k
 
-      go : (o : Option B) (c : Bool) → testOpt p o ≡ c → length (keep p (pick f l)) ≤ length (keep q l) → length (keep p (consOpt o (pick f l))) ≤ length (consIf c x (keep q l))
+      go : (o : Option B) (c : Bool) → has p o ≡ c → length (keep p (pick f l)) ≤ length (keep q l) → length (keep p (consOpt o (pick f l))) ≤ length (consIf c x (keep q l))
       go none c e k = skip c k
       go (some y) c e k = put (p y) c y e k
 

@@ -10,7 +10,8 @@ use mathlib.Core.Option.{Option, none, some, Option·map}
 use lib.ListN.{length, getD, set, take, drop, drop-of-length-le, length-drop}
 use lib.Seq.{drop-cons, take-all}
 use Rattle.octets.specs.Lists.{any, orElse, find, consOpt, pick, placeFrom}
-use Rattle.octets.proofs.Lists.{true-not-false, testOpt}
+use Rattle.octets.proofs.Lists.{true-not-false}
+use Rattle.octets.specs.Tests.{has, bindOption}
 
 -- what a callee ensures of its result, and what the branch on it says
 pub told : {A : Type 0} {r v t : A} → r ≡ v → r ≡ t → v ≡ t
@@ -119,26 +120,26 @@ module _ {A B : Type 0} where
   pickAt-suc f d x l none = refl
   pickAt-suc f d x l (some i) = refl
 
-  pub find-pick : (q : B → Bool) (f : A → Option B) (d : A) (l : List A) → find q (pick f l) ≡ pickAt f d l (placeFrom (λ (x : A). testOpt q (f x)) 0 l)
+  pub find-pick : (q : B → Bool) (f : A → Option B) (d : A) (l : List A) → find q (pick f l) ≡ pickAt f d l (placeFrom (λ (x : A). has q (f x)) 0 l)
   unfolding placeFrom
   find-pick q f d [] = refl
-  find-pick q f d (x ∷ l) = go (f x) refl (find-pick q f d l) ∙ ap (pickAt f d (x ∷ l)) (sym (place-cons (λ (y : A). testOpt q (f y)) x l))
+  find-pick q f d (x ∷ l) = go (f x) refl (find-pick q f d l) ∙ ap (pickAt f d (x ∷ l)) (sym (place-cons (λ (y : A). has q (f y)) x l))
     where
-      here : (b : Bool) (y : B) → f x ≡ some y → find q (pick f l) ≡ pickAt f d l (placeFrom (λ (y : A). testOpt q (f y)) 0 l) →
-          orElse b y (find q (pick f l)) ≡ pickAt f d (x ∷ l) (orElse b 0 (Option·map suc (placeFrom (λ (y : A). testOpt q (f y)) 0 l)))
+      here : (b : Bool) (y : B) → f x ≡ some y → find q (pick f l) ≡ pickAt f d l (placeFrom (λ (y : A). has q (f y)) 0 l) →
+          orElse b y (find q (pick f l)) ≡ pickAt f d (x ∷ l) (orElse b 0 (Option·map suc (placeFrom (λ (y : A). has q (f y)) 0 l)))
       here true y e h = sym e
-      here false y e h = h ∙ pickAt-suc f d x l (placeFrom (λ (y : A). testOpt q (f y)) 0 l)
+      here false y e h = h ∙ pickAt-suc f d x l (placeFrom (λ (y : A). has q (f y)) 0 l)
 
-      go : (u : Option B) → f x ≡ u → find q (pick f l) ≡ pickAt f d l (placeFrom (λ (y : A). testOpt q (f y)) 0 l) →
-          find q (consOpt u (pick f l)) ≡ pickAt f d (x ∷ l) (orElse (testOpt q u) 0 (Option·map suc (placeFrom (λ (y : A). testOpt q (f y)) 0 l)))
-      go none e h = h ∙ pickAt-suc f d x l (placeFrom (λ (y : A). testOpt q (f y)) 0 l)
+      go : (u : Option B) → f x ≡ u → find q (pick f l) ≡ pickAt f d l (placeFrom (λ (y : A). has q (f y)) 0 l) →
+          find q (consOpt u (pick f l)) ≡ pickAt f d (x ∷ l) (orElse (has q u) 0 (Option·map suc (placeFrom (λ (y : A). has q (f y)) 0 l)))
+      go none e h = h ∙ pickAt-suc f d x l (placeFrom (λ (y : A). has q (f y)) 0 l)
       go (some y) e h = here (q y) y e h
 
-  pub any-pick : (q : B → Bool) (f : A → Option B) (l : List A) → any q (pick f l) ≡ any (λ (x : A). testOpt q (f x)) l
+  pub any-pick : (q : B → Bool) (f : A → Option B) (l : List A) → any q (pick f l) ≡ any (λ (x : A). has q (f x)) l
   any-pick q f [] = refl
   any-pick q f (x ∷ l) = go (f x) (any-pick q f l)
     where
-      go : (u : Option B) → any q (pick f l) ≡ any (λ (y : A). testOpt q (f y)) l → any q (consOpt u (pick f l)) ≡ (testOpt q u || any (λ (y : A). testOpt q (f y)) l)
+      go : (u : Option B) → any q (pick f l) ≡ any (λ (y : A). has q (f y)) l → any q (consOpt u (pick f l)) ≡ (has q u || any (λ (y : A). has q (f y)) l)
       go none e = e
       go (some y) e = ap (λ (b : Bool). q y || b) e
 
@@ -146,18 +147,13 @@ module _ {A B : Type 0} where
   pick-ext f g [] h = refl
   pick-ext f g (x ∷ l) h = ap₂ (λ (o : Option B) (r : List B). consOpt o r) (h x) (pick-ext f g l h)
 
-module _ {B C : Type 0} where
-  abbrev pub pickOpt : (B → Option C) → Option B → Option C
-  pickOpt g none = none
-  pickOpt g (some y) = g y
-
 module _ {A B C : Type 0} where
   -- a pick of a pick is one pick
-  pub pick-pick : (g : B → Option C) (f : A → Option B) (l : List A) → pick g (pick f l) ≡ pick (λ (x : A). pickOpt g (f x)) l
+  pub pick-pick : (g : B → Option C) (f : A → Option B) (l : List A) → pick g (pick f l) ≡ pick (λ (x : A). bindOption g (f x)) l
   pick-pick g f [] = refl
   pick-pick g f (x ∷ l) = go (f x) (pick-pick g f l)
     where
-      go : (u : Option B) → pick g (pick f l) ≡ pick (λ (y : A). pickOpt g (f y)) l → pick g (consOpt u (pick f l)) ≡ consOpt (pickOpt g u) (pick (λ (y : A). pickOpt g (f y)) l)
+      go : (u : Option B) → pick g (pick f l) ≡ pick (λ (y : A). bindOption g (f y)) l → pick g (consOpt u (pick f l)) ≡ consOpt (bindOption g u) (pick (λ (y : A). bindOption g (f y)) l)
       go none e = e
       go (some y) e = ap (λ (r : List C). consOpt (g y) r) e
 

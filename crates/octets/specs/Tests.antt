@@ -1,4 +1,4 @@
--- Tests of what may be there or not, and a test as a number.
+-- What may be there or not: tests of it, what is found in it; and a test as a number.
 use Prim.Native.Nat.{ℕ}
 use mathlib.Core.Bool.{Bool, true, false}
 use mathlib.Core.Option.{Option, none, some}
@@ -19,6 +19,12 @@ module _ {ℓ} {A : Type ℓ} where
   hasBoth t none o = false
   hasBoth t (some x) none = false
   hasBoth t (some x) (some y) = t x y
+
+module _ {ℓ κ} {A : Type ℓ} {B : Type κ} where
+  -- what f finds in what is there
+  abbrev pub bindOption : (A → Option B) → Option A → Option B
+  bindOption f none = none
+  bindOption f (some x) = f x
 
 -- 1 where a test holds, for counts
 abbrev pub bit : Bool → ℕ

@@ -12,8 +12,8 @@ use Rattle.board.specs.declared.Connection.{Connection}
 use Rattle.board.specs.declared.Connection.the-variants.{WithUser, WithPartner}
 use Rattle.board.specs.declared.Entry.{Entry}
 use Rattle.board.specs.declared.Party.{Party}
-use Rattle.board.specs.Entries.{isLinkId, hasLeg, hasReference, calls}
-use Rattle.board.specs.LinkIds.{freeLinkId}
+use Rattle.board.specs.Entries.{isLinkId, hasLeg, hasReference, calls, hasPartyReference, linkIdIn, hasPartyLinkId}
+use Rattle.board.specs.LinkIds.{freeLinkId, live}
 use Rattle.board.specs.States.{holdable}
 use Rattle.board.specs.declared.AuxiliaryState.{AuxiliaryState}
 use Rattle.board.specs.declared.CallState.{CallState}
@@ -24,14 +24,14 @@ use Rattle.component.specs.declared.Operation.{Operation}
 use Rattle.component.specs.declared.Operation.the-variants.{EctExecute, ExplicitEctExecute, EctLinkIdRequest}
 use Rattle.component.specs.declared.Reading.{Reading}
 use Rattle.component.specs.declared.Reading.the-variants.{Ignored, Rejected, Invoked}
-use Rattle.rules.specs.Checks.{decide, Decision, Refuse, Accept, accept, opening, named, mayProgress, mayHold, releaseOf, serviceDecision, decideOpen, decideProgress, decideHold, entryAt, decideRelease, decideFacility, isNamed, decideAlerting, decideAnswer}
+use Rattle.rules.specs.Checks.{decide, Decision, Refuse, Accept, accept, opening, named, mayProgress, mayHold, releaseOf, serviceDecision, decideOpen, decideProgress, decideHold, entryAt, decideRelease, decideFacility, decideAlerting, decideAnswer}
 use Rattle.rules.specs.History.{opensLeg, endsLeg}
 use Rattle.rules.specs.Replies.{Written, nothing, replied, releaseReplies, answerTold}
 use Rattle.rules.proofs.Lengths.{Short, nothing-short, reply-short}
 use Rattle.board.specs.declared.Change.the-variants as change
 use Rattle.events.specs.Refusals.{refusalNumber}
 use Rattle.events.specs.EventRecords.{Answer, Request, Open, Progress, Hold, Release, Facility, Malformed}
-use Rattle.rules.specs.Serving.{Service, Silent, Respond, assign, live, AssignLinkId, partnerFor, Transfer, execute, partyLinkId, executeExplicitly, error, newLinkId, linkIdRequest, perform, serve}
+use Rattle.rules.specs.Serving.{Service, Silent, Respond, assign, AssignLinkId, partnerFor, Transfer, execute, executeExplicitly, error, newLinkId, linkIdRequest, perform, serve}
 use Rattle.events.specs.declared.Refusal.{Refusal}
 use Rattle.octets.proofs.Lists.{keep-mem, only-mem, find-mem}
 use Rattle.octets.specs.Lists.{only, keep, find, any}
@@ -53,12 +53,12 @@ module _ (opt : Options) (z : ℤ) (ps : List Party) (p : Party) where
   execute-is i none e = respond _
   execute-is i (some q) e = let m = keep-mem (partnerFor opt p) ps (only-mem (keep (partnerFor opt p) ps) e) in transferred i (m .0) (m .1)
 
-  explicit-is : (i : IntegerOctets) (l : LinkId) (o : Option Party) → find (λ (q : Party). isLinkId (l .0) (partyLinkId q)) ps ≡ o → ComesTo (executeExplicitly opt p i o)
+  explicit-is : (i : IntegerOctets) (l : LinkId) (o : Option Party) → find (hasPartyLinkId (l .0)) ps ≡ o → ComesTo (executeExplicitly opt p i o)
   explicit-is i l none e = respond _
   explicit-is i l (some q) e = go (partnerFor opt p q) refl
     where
       go : (b : Bool) → partnerFor opt p q ≡ b → ComesTo (cond b (Transfer p q i) (error i 7))
-      go true h = transferred i (find-mem (λ (q : Party). isLinkId (l .0) (partyLinkId q)) ps e .0) h
+      go true h = transferred i (find-mem (hasPartyLinkId (l .0)) ps e .0) h
       go false h = respond _
 
   new-is : (i : IntegerOctets) → ComesTo (newLinkId (length (live ps)) i (freeLinkId 16 z (live ps)))
@@ -75,8 +75,8 @@ module _ (opt : Options) (z : ℤ) (ps : List Party) (p : Party) where
 
   perform-is : (i : IntegerOctets) (op : Operation) → ComesTo (perform opt z ps p i op)
   perform-is i EctExecute = execute-is i (only (keep (partnerFor opt p) ps)) refl
-  perform-is i (ExplicitEctExecute l) = explicit-is i l (find (λ (q : Party). isLinkId (l .0) (partyLinkId q)) ps) refl
-  perform-is i EctLinkIdRequest = request-is i (partyLinkId p)
+  perform-is i (ExplicitEctExecute l) = explicit-is i l (find (hasPartyLinkId (l .0)) ps) refl
+  perform-is i EctLinkIdRequest = request-is i (linkIdIn (p .call .link))
 
   pub served-is : (r : Reading) → ComesTo (serve opt z ps p r)
   unfolding serve
@@ -157,7 +157,7 @@ module _ (opt : Options) (z : ℤ) (w : Bool) (es : List Entry) where
 
   facility-is : (r : ℕ) (c : List ℕ) (o : Option Party) → named r es ≡ o → Decided (Facility r c) (decideFacility opt z es c o)
   facility-is r c none e = refuses _
-  facility-is r c (some p) e = service-is r c p (find-mem (isNamed r) (calls es) e .0) (served-is opt z (calls es) p (reading c))
+  facility-is r c (some p) e = service-is r c p (find-mem (hasPartyReference r) (calls es) e .0) (served-is opt z (calls es) p (reading c))
 
   alerting-is : (l : ℕ) (t : Connection) → Decided (Answer l) (decideAlerting opt l t)
   alerting-is l (WithUser c) = refuses _

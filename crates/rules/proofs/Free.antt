@@ -12,11 +12,11 @@ use lib.Dec.{eqb}
 use lib.ListN.{length}
 use lib.IntN.{ℤ, pos, negsuc}
 use Rattle.board.specs.Entries.{taken, linkIds, calls}
-use Rattle.board.specs.LinkIds.{freeLinkId, unlessLive}
+use Rattle.board.specs.LinkIds.{freeLinkId, unlessLive, live}
 use Rattle.board.specs.declared.Board.{Board}
 use Rattle.rules.proofs.Kept.{live-length, first-not-live}
 use Rattle.rules.specs.LinkIdGiven.{InLinkIdRange, LinkIdGiven}
-use Rattle.rules.specs.Serving.{live, error, assign}
+use Rattle.rules.specs.Serving.{error, assign}
 use Rattle.octets.proofs.Lists.{true-not-false, eqb-of, eqb-eq, test, neither, both, any-has, any-of, mem-keep, or-false, left, right, is-not}
 use Rattle.octets.proofs.SameInteger.{sameInteger-eq}
 use Rattle.octets.specs.Lists.{all, any, distinct, keep, consIf}

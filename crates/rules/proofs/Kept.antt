@@ -16,8 +16,8 @@ use Rattle.board.specs.declared.Connection.{Connection}
 use Rattle.board.specs.declared.Connection.the-variants.{WithUser, WithPartner}
 use Rattle.board.specs.declared.Entry.{Entry}
 use Rattle.board.specs.declared.Party.{Party}
-use Rattle.board.specs.Entries.{entry, calls, partyOf, hasLeg, hasReference, referenceOf, linkIds, linked, linkIdOf, linkIdIn, present, hasLinkId, isLinkId, isNumber, isPartner}
-use Rattle.board.specs.LinkIds.{freeLinkId, unlessLive}
+use Rattle.board.specs.Entries.{entry, calls, partyOf, hasLeg, hasReference, referenceOf, linkIds, linked, linkIdOf, linkIdIn, present, hasLinkId, isLinkId, isNumber, isPartner, hasPartyReference}
+use Rattle.board.specs.LinkIds.{freeLinkId, unlessLive, live}
 use Rattle.board.specs.Soundness.{answersTo, partnered, joinedBack, validPartner, sameLinkIds, validEntry, sameLegs, sameReferences, sameNumbers, validConnection, sameLinkIdsIn}
 use Rattle.board.specs.States.{validReference, validCall, validDirection, holdable, idle, delivered, sameState, active, outgoing}
 use Rattle.board.specs.declared.AuxiliaryState.{AuxiliaryState}
@@ -30,10 +30,10 @@ use Rattle.board.specs.declared.Options.{Options}
 use Rattle.rules.proofs.Decided.{decided, Decided, refuses, changes-nothing, opens-leg, sets-state, sets-auxiliary, releases, assigns-link-id, transfers, ends-alerting}
 use Rattle.rules.proofs.Order.{calls-one}
 use Rattle.rules.specs.Book.{mapConnection, changeCall, endAlerting, joinLegs, entriesAfter}
-use Rattle.rules.specs.Checks.{opened, named, isNamed, mayProgress, decide, Decision, Apply, releaseOf, changeOf}
+use Rattle.rules.specs.Checks.{opened, named, mayProgress, decide, Decision, Apply, releaseOf, changeOf}
 use Rattle.events.specs.EventRecords.{Request, inRange}
 use Rattle.rules.specs.Pairing.{verdict, pairs, heldWithIdle}
-use Rattle.rules.specs.Serving.{live, sameCall, partnerFor}
+use Rattle.rules.specs.Serving.{sameCall, partnerFor}
 use Rattle.rules.specs.LinkIdGiven.{upward, FirstNotLive}
 use Rattle.octets.proofs.Lists.{pick-mem, mem-pick, any-has, right, all-at, true-not-false, eqb-eq, left, is-not, both, any-of, eqb-self, none-by, or-right, all-by, any-map, any-ext, distinct-map, all-map, all-ext}
 use Rattle.octets.proofs.Lists.{map-mem, length-keep-map, small-mem, find-mem, mem-keep, test, or-false, none-of, or-left, is-true, keep-map-le, from-true, eqb-of, neither, keep-mem, distinct-keep, keep-keep-le, mem-map, keep-none, eqb-sym}
@@ -41,6 +41,7 @@ use Rattle.octets.proofs.SameInteger.{sameInteger-eq, sameInteger-self}
 use Rattle.octets.specs.Lists.{any, distinct, keep, consOpt, consIf}
 use Rattle.octets.specs.Numbers.{sameInteger, nextLinkId}
 use Rattle.octets.specs.declared.LinkId.{LinkId}
+use Rattle.board.proofs.FreeLinkIds.{live-any}
 
 -- ---- a leg and its connection
 
@@ -181,9 +182,9 @@ module _ (r : ℕ) (f : Call → Call) (same : (c : Call) → f c .reference .0 
 pub the-named : {es : List Entry} → Sound es → (r : ℕ) {p : Party} → named r es ≡ some p → (n : ℕ) (c : Call) → List·Memᴰ (entry n (WithUser c)) es → eqb r (c .reference .0) ≡ true →
     p ≡ record { leg = n; call = c }
 the-named {es} s r {p} e n c m h =
-    small-mem (keep (isNamed r) (calls es)) (calls-one r s)
-    (let u = find-mem (isNamed r) (calls es) e in mem-keep (isNamed r) (u .0) (u .1))
-    (mem-keep (isNamed r) (mem-party m) h)
+    small-mem (keep (hasPartyReference r) (calls es)) (calls-one r s)
+    (let u = find-mem (hasPartyReference r) (calls es) e in mem-keep (hasPartyReference r) (u .0) (u .1))
+    (mem-keep (hasPartyReference r) (mem-party m) h)
 
 -- a call that is Idle, or can be held, can be held or is Idle afterwards too
 more : (a i : Bool) → (a && (i || false)) ≡ true → (a && (i || true)) ≡ true
@@ -254,18 +255,6 @@ first-not-live (suc n) z used {y} e = go (any (sameInteger z) used) refl e (firs
     go : (b : Bool) → any (sameInteger z) used ≡ b → unlessLive b z (freeLinkId n (nextLinkId z) used) ≡ some y → (freeLinkId n (nextLinkId z) used ≡ some y → FirstNotLive (nextLinkId z) used y) → FirstNotLive z used y
     go true h e f = let r = f e in record { steps = suc (r .steps); reached = r .reached; not-live = r .not-live; live-before = before r h }
     go false h e f = let d : z ≡ y = cc in record { steps = 0; reached = d; not-live = subst (λ (x : ℤ). any (sameInteger x) used ≡ false) d h; live-before = λ m l. absurd (omega (arith, l)) }
-
-pub live-any : (z : ℤ) (es : List Entry) → any (sameInteger z) (live (calls es)) ≡ any (hasLinkId z) es
-live-any z [] = refl
-live-any z (e ∷ es) = go (e .leg) (e .connection) (live-any z es)
-  where
-    link : (o : Option ℤ) → any (sameInteger z) (live (calls es)) ≡ any (hasLinkId z) es → any (sameInteger z) (consOpt o (live (calls es))) ≡ (isLinkId z o || any (hasLinkId z) es)
-    link none h = h
-    link (some y) h = ap (λ (b : Bool). sameInteger z y || b) h
-
-    go : (n : ℕ) (t : Connection) → any (sameInteger z) (live (calls es)) ≡ any (hasLinkId z) es → any (sameInteger z) (live (consOpt (partyOf n t) (calls es))) ≡ (isLinkId z (linkIdOf t) || any (hasLinkId z) es)
-    go n (WithUser c) h = link (linkIdIn (c .link)) h
-    go n (WithPartner p a) h = h
 
 pub live-length : (es : List Entry) → length (live (calls es)) ≡ linkIds es
 live-length [] = refl

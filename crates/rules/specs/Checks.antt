@@ -27,7 +27,7 @@ use Rattle.board.specs.declared.Connection.{Connection}
 use Rattle.board.specs.declared.Connection.the-variants.{WithUser, WithPartner}
 use Rattle.board.specs.declared.Entry.{Entry}
 use Rattle.board.specs.declared.Party.{Party}
-use Rattle.board.specs.Entries.{calls, hasLeg, hasReference}
+use Rattle.board.specs.Entries.{calls, hasLeg, hasReference, hasPartyReference}
 use Rattle.events.specs.declared.Refusal.{Refusal}
 use Rattle.events.specs.declared.Refusal.the-variants as refusal
 use Rattle.events.specs.Refusals.{refusalNumber}
@@ -127,12 +127,9 @@ mayHold RetrieveRequest HoldRequest = false
 mayHold RetrieveRequest CallHeld = true
 mayHold RetrieveRequest RetrieveRequest = false
 
-abbrev pub isNamed : ℕ → Party → Bool
-isNamed r p = eqb r (p .call .reference .0)
-
 -- the call with that reference
 abbrev pub named : ℕ → List Entry → Option Party
-named r es = find (isNamed r) (calls es)
+named r es = find (hasPartyReference r) (calls es)
 
 -- the entry of that leg
 abbrev pub entryAt : ℕ → List Entry → Option Entry

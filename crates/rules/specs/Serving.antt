@@ -17,8 +17,8 @@ use Rattle.component.specs.declared.Reading.the-variants.{Ignored, Rejected, In
 use Rattle.component.specs.declared.Answer.the-variants as answer
 use Rattle.board.specs.declared.Options.{Options}
 use Rattle.board.specs.declared.Party.{Party}
-use Rattle.board.specs.Entries.{linkIdIn, isLinkId}
-use Rattle.board.specs.LinkIds.{mostLinkIds, freeLinkId}
+use Rattle.board.specs.Entries.{linkIdIn, isLinkId, hasPartyLinkId}
+use Rattle.board.specs.LinkIds.{mostLinkIds, freeLinkId, live}
 -- what a component comes to
 pub use Rattle.rules.specs.declared.Service.{Service}
 pub use Rattle.rules.specs.declared.Service.the-variants.{Silent, Respond, AssignLinkId, Transfer}
@@ -29,12 +29,6 @@ abbrev pub error : IntegerOctets → ℕ → Service
 error i e = Respond (answer.Error i e)
 
 -- ---- EctLinkIdRequest
-
-abbrev pub partyLinkId : Party → Option ℤ
-partyLinkId p = linkIdIn (p .call .link)
-
-abbrev pub live : List Party → List ℤ
-live ps = pick partyLinkId ps
 
 -- with fewer than 16 live, 16 values always hold one that is free, so there is always a value: theorem `link-id-given`
 abbrev pub assign : IntegerOctets → Option ℤ → Service
@@ -68,14 +62,10 @@ abbrev pub executeExplicitly : Options → Party → IntegerOctets → Option Pa
 executeExplicitly o named i none = Respond (answer.LinkIdNotAssigned i)
 executeExplicitly o named i (some q) = cond (partnerFor o named q) (Transfer named q i) (error i 7)
 
--- "LinkId not live": no call has it
-abbrev pub hasLinkId : LinkId → Party → Bool
-hasLinkId l q = isLinkId (l .0) (partyLinkId q)
-
 abbrev pub perform : Options → ℤ → List Party → Party → IntegerOctets → Operation → Service
 perform o candidate ps named i EctExecute = execute named i (only (keep (partnerFor o named) ps))
-perform o candidate ps named i (ExplicitEctExecute l) = executeExplicitly o named i (find (hasLinkId l) ps)
-perform o candidate ps named i EctLinkIdRequest = linkIdRequest candidate (live ps) i (partyLinkId named)
+perform o candidate ps named i (ExplicitEctExecute l) = executeExplicitly o named i (find (hasPartyLinkId (l .0)) ps)
+perform o candidate ps named i EctLinkIdRequest = linkIdRequest candidate (live ps) i (linkIdIn (named .call .link))
 
 -- "Not subscribed: e = 0, after any Reject above and before the rest."
 abbrev pub ifSubscribed : Options → IntegerOctets → Service → Service

@@ -6,14 +6,13 @@ use mathlib.Core.Bool.{_&&_, _||_, true, Bool, not, false, cond}
 use mathlib.Core.List.{_∷_, List, []}
 use mathlib.Core.Option.{some, Option, none, Option·map}
 use lib.ListN.{getD, drop}
-use Rattle.board.proofs.Searches.{calls-of-rows, rowParty}
-use Rattle.board.specs.Entries.{calls, taken, foundParty}
+use Rattle.board.proofs.Searches.{calls-of-rows}
+use Rattle.board.specs.Entries.{calls, taken, foundParty, rowParty}
 use Rattle.board.specs.States.{active}
 use Rattle.board.specs.declared.Call.{Call}
 use Rattle.board.specs.declared.Party.{Party}
 use Rattle.board.specs.declared.Row.{Row}
-use Rattle.serving.proofs.PartyLaws.{noRow, party-in}
-use Rattle.serving.specs.Code.Parties.{partyIn}
+use Rattle.serving.proofs.PartyLaws.{noRow}
 use Rattle.octets.proofs.Lists.{true-not-false, left, all-by, keep-mem}
 use Rattle.octets.proofs.Places.{place-cons, place-lowest}
 use Rattle.octets.specs.Lists.{all, keep, pick, consIf, consOpt, only, placeFrom, orElse}
@@ -49,17 +48,17 @@ module _ (c d : Call) where
 
 module _ (q : Party → Bool) where
   abbrev found : Row → Bool
-  found r = has q (partyIn r)
+  found r = has q (rowParty r)
 
-  keep-pick : (l : List Row) → keep q (pick partyIn l) ≡ pick partyIn (keep found l)
+  keep-pick : (l : List Row) → keep q (pick rowParty l) ≡ pick rowParty (keep found l)
   keep-pick [] = refl
-  keep-pick (x ∷ l) = go (partyIn x) refl (keep-pick l)
+  keep-pick (x ∷ l) = go (rowParty x) refl (keep-pick l)
     where
-      put : (b : Bool) (y : Party) → partyIn x ≡ some y → keep q (pick partyIn l) ≡ pick partyIn (keep found l) → consIf b y (keep q (pick partyIn l)) ≡ pick partyIn (consIf b x (keep found l))
+      put : (b : Bool) (y : Party) → rowParty x ≡ some y → keep q (pick rowParty l) ≡ pick rowParty (keep found l) → consIf b y (keep q (pick rowParty l)) ≡ pick rowParty (consIf b x (keep found l))
       put true y e h = ap₂ (λ (r : List Party) (o : Option Party). consOpt o r) h (sym e)
       put false y e h = h
 
-      go : (o : Option Party) → partyIn x ≡ o → keep q (pick partyIn l) ≡ pick partyIn (keep found l) → keep q (consOpt o (pick partyIn l)) ≡ pick partyIn (consIf (has q o) x (keep found l))
+      go : (o : Option Party) → rowParty x ≡ o → keep q (pick rowParty l) ≡ pick rowParty (keep found l) → keep q (consOpt o (pick rowParty l)) ≡ pick rowParty (consIf (has q o) x (keep found l))
       go none e h = h
       go (some y) e h = put (q y) y e h
 
@@ -68,15 +67,15 @@ module _ (q : Party → Bool) where
   one o [] = o
   one o (x ∷ l) = none
 
-  only-first : (x : Row) (l : List Row) → found x ≡ true → all found l ≡ true → only (pick partyIn (x ∷ l)) ≡ one (partyIn x) l
-  only-first x [] h k = go (partyIn x) h
+  only-first : (x : Row) (l : List Row) → found x ≡ true → all found l ≡ true → only (pick rowParty (x ∷ l)) ≡ one (rowParty x) l
+  only-first x [] h k = go (rowParty x) h
     where
       go : (o : Option Party) → has q o ≡ true → only (consOpt o []) ≡ o
       go none u = absurd (true-not-false u refl)
       go (some y) u = refl
-  only-first x (z ∷ l) h k = go (partyIn x) (partyIn z) h (left (found z) _ k)
+  only-first x (z ∷ l) h k = go (rowParty x) (rowParty z) h (left (found z) _ k)
     where
-      go : (o u : Option Party) → has q o ≡ true → has q u ≡ true → only (consOpt o (consOpt u (pick partyIn l))) ≡ none
+      go : (o u : Option Party) → has q o ≡ true → has q u ≡ true → only (consOpt o (consOpt u (pick rowParty l))) ≡ none
       go none u a b = absurd (true-not-false a refl)
       go (some y) none a b = absurd (true-not-false b refl)
       go (some y) (some w) a b = refl
@@ -119,18 +118,11 @@ some-kept p k (x ∷ l) {j} e = go (p x) e (λ h. some-kept p (suc k) l {j = j} 
     go false q f = f q
 
 module _ (q : Party → Bool) (rows : List Row) where
-  calls-in : calls (taken rows) ≡ pick partyIn rows
-  calls-in = calls-of-rows rows ∙ go rows
-    where
-      go : (l : List Row) → pick rowParty l ≡ pick partyIn l
-      go [] = refl
-      go (x ∷ l) = ap₂ consOpt (party-in x) (go l)
-
-  kept-calls : keep q (calls (taken rows)) ≡ pick partyIn (keep (found q) rows)
-  kept-calls = ap (keep q) calls-in ∙ keep-pick q rows
+  kept-calls : keep q (calls (taken rows)) ≡ pick rowParty (keep (found q) rows)
+  kept-calls = ap (keep q) (calls-of-rows rows) ∙ keep-pick q rows
 
   pub only-nowhere : none ≡ placeFrom (found q) 0 rows → found-party.Nothing ≡ foundParty (only (keep q (calls (taken rows))))
-  only-nowhere e = sym (ap (λ (l : List Party). foundParty (only l)) (kept-calls ∙ ap (pick partyIn) (none-kept (found q) 0 rows (sym e))))
+  only-nowhere e = sym (ap (λ (l : List Party). foundParty (only l)) (kept-calls ∙ ap (pick rowParty) (none-kept (found q) 0 rows (sym e))))
 
   module _ {i : ℕ} (e : some i ≡ placeFrom (found q) 0 rows) where
     first : keep (found q) rows ≡ getD rows i noRow ∷ keep (found q) (drop (suc i) rows)
@@ -139,14 +131,14 @@ module _ (q : Party → Bool) (rows : List Row) where
     there : found q (getD rows i noRow) ≡ true
     there = place-lowest (found q) noRow rows i (sym e) .passes
 
-    only-is : only (keep q (calls (taken rows))) ≡ one q (partyIn (getD rows i noRow)) (keep (found q) (drop (suc i) rows))
-    only-is = ap only (kept-calls ∙ ap (pick partyIn) first) ∙ only-first q (getD rows i noRow) (keep (found q) (drop (suc i) rows)) there (kept-pass q (drop (suc i) rows))
+    only-is : only (keep q (calls (taken rows))) ≡ one q (rowParty (getD rows i noRow)) (keep (found q) (drop (suc i) rows))
+    only-is = ap only (kept-calls ∙ ap (pick rowParty) first) ∙ only-first q (getD rows i noRow) (keep (found q) (drop (suc i) rows)) there (kept-pass q (drop (suc i) rows))
 
-    pub only-here : none ≡ placeFrom (found q) (i + 1) (drop (i + 1) rows) → foundParty (partyIn (getD rows i noRow)) ≡ foundParty (only (keep q (calls (taken rows))))
+    pub only-here : none ≡ placeFrom (found q) (i + 1) (drop (i + 1) rows) → foundParty (rowParty (getD rows i noRow)) ≡ foundParty (only (keep q (calls (taken rows))))
     only-here n =
-        sym (ap foundParty (only-is ∙ ap (one q (partyIn (getD rows i noRow))) (subst (λ (k : ℕ). keep (found q) (drop k rows) ≡ []) (add-one i) (none-kept (found q) (i + 1) (drop (i + 1) rows) (sym n)))))
+        sym (ap foundParty (only-is ∙ ap (one q (rowParty (getD rows i noRow))) (subst (λ (k : ℕ). keep (found q) (drop k rows) ≡ []) (add-one i) (none-kept (found q) (i + 1) (drop (i + 1) rows) (sym n)))))
 
     pub only-several : {j : ℕ} → some j ≡ placeFrom (found q) (i + 1) (drop (i + 1) rows) → found-party.Nothing ≡ foundParty (only (keep q (calls (taken rows))))
     only-several {j} n =
         let m = some-kept (found q) (i + 1) (drop (i + 1) rows) (sym n) in
-        sym (ap foundParty (only-is ∙ ap (one q (partyIn (getD rows i noRow))) (subst (λ (k : ℕ). keep (found q) (drop k rows) ≡ m .0 ∷ m .1) (add-one i) (m .2))))
+        sym (ap foundParty (only-is ∙ ap (one q (rowParty (getD rows i noRow))) (subst (λ (k : ℕ). keep (found q) (drop k rows) ≡ m .0 ∷ m .1) (add-one i) (m .2))))

@@ -6,8 +6,8 @@ use mathlib.Core.Bool.{Bool}
 use mathlib.Core.List.{[], List}
 use mathlib.Core.Option.{none, Option, some}
 use lib.ListN.{getD}
-use Rattle.board.proofs.Searches.{rowParty, elementAt, find-at, entry-by-leg}
-use Rattle.board.specs.Entries.{partyOf, entryOf, calls, taken, foundParty, foundEntry, rowEntry}
+use Rattle.board.proofs.Searches.{elementAt, find-at, entry-by-leg}
+use Rattle.board.specs.Entries.{partyOf, entryOf, calls, taken, foundParty, foundEntry, rowEntry, rowParty}
 use Rattle.board.specs.Code.Keys.{matchesKey}
 use Rattle.board.specs.Lookup.{foundRow}
 use Rattle.board.specs.declared.Entry.{Entry}
@@ -16,33 +16,25 @@ use Rattle.board.specs.declared.Row.{Row}
 use Rattle.board.specs.declared.Standing.{Standing}
 use Rattle.board.specs.declared.Standing.the-variants.{Empty, Served, Joined}
 use Rattle.rules.specs.Checks.{entryAt}
-use Rattle.serving.specs.Code.Parties.{partyIn, standingParty}
-use Rattle.octets.proofs.Places.{pickOpt, pickAt}
+use Rattle.octets.proofs.Places.{pickAt}
 use Rattle.octets.specs.Lists.{find, placeFrom}
 use Rattle.board.specs.declared.finding.Key.{Key}
 use Rattle.board.specs.declared.finding.Key.the-variants as key
 use Rattle.board.specs.declared.FoundParty.the-variants as found-party
+use Rattle.octets.specs.Tests.{bindOption}
 
 -- what lies past the end of the rows
 abbrev pub noRow : Row
 noRow = record { leg = 0; number = record { presentation = 0; count = 0; digits = [] }; standing = Empty }
 
-pub party-in : (row : Row) → rowParty row ≡ partyIn row
-party-in row = go (row .standing)
-  where
-    go : (s : Standing) → pickOpt (λ (e : Entry). partyOf (e .leg) (e .connection)) (entryOf (row .leg) s) ≡ standingParty (row .leg) s
-    go Empty = refl
-    go (Served c) = refl
-    go (Joined p a) = refl
-
 module _ (q : Party → Bool) (k : Key) (rows : List Row) (law : find q (calls (taken rows)) ≡ pickAt rowParty noRow rows (placeFrom (matchesKey k) 0 rows)) where
-  pub party-found : {row : Row} → row ≡ foundRow (find (matchesKey k) rows) → foundParty (partyIn row) ≡ foundParty (find q (calls (taken rows)))
+  pub party-found : {row : Row} → row ≡ foundRow (find (matchesKey k) rows) → foundParty (rowParty row) ≡ foundParty (find q (calls (taken rows)))
   party-found e =
-      ap (λ (r : Row). foundParty (partyIn r)) (e ∙ ap foundRow (find-at noRow (matchesKey k) rows)) ∙ sym (ap foundParty (law ∙ go (placeFrom (matchesKey k) 0 rows)))
+      ap (λ (r : Row). foundParty (rowParty r)) (e ∙ ap foundRow (find-at noRow (matchesKey k) rows)) ∙ sym (ap foundParty (law ∙ go (placeFrom (matchesKey k) 0 rows)))
     where
-      go : (o : Option ℕ) → pickAt rowParty noRow rows o ≡ partyIn (foundRow (elementAt noRow rows o))
+      go : (o : Option ℕ) → pickAt rowParty noRow rows o ≡ rowParty (foundRow (elementAt noRow rows o))
       go none = refl
-      go (some i) = party-in (getD rows i noRow)
+      go (some i) = refl
 
 pub entry-found : (n : ℕ) (rows : List Row) {row : Row} → row ≡ foundRow (find (matchesKey (key.Leg n)) rows) → foundEntry (rowEntry row) ≡ foundEntry (entryAt n (taken rows))
 entry-found n rows e =

@@ -11,7 +11,7 @@ use lib.ListN.{length}
 use lib.IntN.{ℤ}
 use Rattle.board.specs.Counts.{links}
 use Rattle.board.specs.Entries.{linkIdOf, calls, partyOf, linkIdIn, taken}
-use Rattle.board.specs.LinkIds.{mostLinkIds, freeLinkId, liveLinkIds, optionalLinkId}
+use Rattle.board.specs.LinkIds.{mostLinkIds, freeLinkId, optionalLinkId, live}
 use Rattle.board.specs.Code.Tallies.{tallyOf}
 use Rattle.board.specs.declared.Connection.{Connection}
 use Rattle.board.specs.declared.Connection.the-variants.{WithUser, WithPartner}
@@ -22,20 +22,11 @@ use Rattle.octets.specs.Lists.{pick, consOpt}
 use Rattle.octets.specs.declared.IntegerOctets.{IntegerOctets}
 use Rattle.octets.specs.declared.LinkId.{LinkId}
 use Rattle.rules.proofs.Kept.{live-length}
-use Rattle.rules.specs.Serving.{live, newLinkId, error, assign}
+use Rattle.rules.specs.Serving.{newLinkId, error, assign}
 use Rattle.rules.specs.declared.Service.{Service}
 use Rattle.rules.specs.declared.Service.the-variants.{AssignLinkId}
 use Rattle.board.specs.declared.OptionalLinkId.the-variants.{Absent, Present}
 use Rattle.board.specs.declared.Tally.{Tally}
-
-live-is : (es : List Entry) → pick (λ (e : Entry). linkIdOf (e .connection)) es ≡ live (calls es)
-live-is [] = refl
-live-is (e ∷ es) = go (e .leg) (e .connection) (live-is es)
-  where
-    go : (n : ℕ) (t : Connection) → pick (λ (e : Entry). linkIdOf (e .connection)) es ≡ live (calls es) →
-        consOpt (linkIdOf t) (pick (λ (e : Entry). linkIdOf (e .connection)) es) ≡ live (consOpt (partyOf n t) (calls es))
-    go n (WithUser c) h = ap (consOpt (linkIdIn (c .link))) h
-    go n (WithPartner p a) h = h
 
 module _ (rows : List Row) (z : ℤ) (i : IntegerOctets) {t : Tally} (tally : t ≡ tallyOf rows) where
   abbrev New : Service → Type 0
@@ -49,10 +40,9 @@ module _ (rows : List Row) (z : ℤ) (i : IntegerOctets) {t : Tally} (tally : t 
   new-full h = sym (ap (λ (b : Bool). cond b (error i 11) (assign i (freeLinkId mostLinkIds z (live (calls (taken rows)))))) (ap (leb mostLinkIds) (sym links-are) ∙ le-leb mostLinkIds (t .links) h))
 
   module _ (h : t .links < mostLinkIds) where
-    room : newLinkId (length (live (calls (taken rows)))) i (freeLinkId mostLinkIds z (live (calls (taken rows)))) ≡ assign i (freeLinkId mostLinkIds z (liveLinkIds rows))
+    room : newLinkId (length (live (calls (taken rows)))) i (freeLinkId mostLinkIds z (live (calls (taken rows)))) ≡ assign i (freeLinkId mostLinkIds z (live (calls (taken rows))))
     room =
         ap (λ (b : Bool). cond b (error i 11) (assign i (freeLinkId mostLinkIds z (live (calls (taken rows)))))) (ap (leb mostLinkIds) (sym links-are) ∙ lt-leb mostLinkIds (t .links) h)
-        ∙ ap (λ (l : List ℤ). assign i (freeLinkId mostLinkIds z l)) (sym (live-is (taken rows)))
 
     absent-none : (o : Option ℤ) → optionalLinkId o ≡ Absent → o ≡ none
     absent-none none e = refl
@@ -62,8 +52,8 @@ module _ (rows : List Row) (z : ℤ) (i : IntegerOctets) {t : Tally} (tally : t 
     given none e = let z : _≡_ {A = ℕ} 0 1 = cc in absurd (omega arith)
     given (some y) {id} e = let d : record { 0 = y } ≡ id = cc in ap (λ (l : LinkId). AssignLinkId l i) d
 
-    pub new-none : optionalLinkId (freeLinkId mostLinkIds z (liveLinkIds rows)) ≡ Absent → New (error i 11)
-    new-none e = sym (room ∙ ap (assign i) (absent-none (freeLinkId mostLinkIds z (liveLinkIds rows)) e))
+    pub new-none : optionalLinkId (freeLinkId mostLinkIds z (live (calls (taken rows)))) ≡ Absent → New (error i 11)
+    new-none e = sym (room ∙ ap (assign i) (absent-none (freeLinkId mostLinkIds z (live (calls (taken rows)))) e))
 
-    pub new-some : {id : LinkId} → optionalLinkId (freeLinkId mostLinkIds z (liveLinkIds rows)) ≡ Present id → New (AssignLinkId id i)
-    new-some e = sym (room ∙ given (freeLinkId mostLinkIds z (liveLinkIds rows)) e)
+    pub new-some : {id : LinkId} → optionalLinkId (freeLinkId mostLinkIds z (live (calls (taken rows)))) ≡ Present id → New (AssignLinkId id i)
+    new-some e = sym (room ∙ given (freeLinkId mostLinkIds z (live (calls (taken rows)))) e)

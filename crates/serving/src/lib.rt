@@ -18,9 +18,11 @@ use soundness::add_up;
 ghost use mathlib.Core.Path.{_≡_};
 ghost use lib.ListN.{length};
 ghost use Rattle.octets.specs.Lists.{only};
-ghost use Rattle.rules.specs.Serving.{error, live, newLinkId, linkIdRequest, partyLinkId};
+ghost use Rattle.rules.specs.Serving.{error, newLinkId, linkIdRequest};
 ghost use Rattle.rules.specs.Serving.{execute as executed, executeExplicitly, serve as served};
 ghost use Rattle.serving.specs.Code.Parties.{partiesOf, pairedOn, linkedOn, performedOn, freeIn};
+ghost use Rattle.board.specs.LinkIds.{live};
+ghost use Rattle.board.specs.Entries.{linkIdIn};
 
 mod pairing;
 pub mod parties;
@@ -47,7 +49,7 @@ fn assign_link_id(board: Board, identifier: IntegerOctets) -> Service
 }
 
 fn request_link_id(board: Board, named: Party, identifier: IntegerOctets) -> Service
-    ensures { λ r. ⌜ r ≡ linkIdRequest (board .candidate .0) (live (partiesOf board)) identifier (partyLinkId named) ⌝ }
+    ensures { λ r. ⌜ r ≡ linkIdRequest (board .candidate .0) (live (partiesOf board)) identifier (linkIdIn (named .call .link)) ⌝ }
 {
     let call = named.call;
     let link = call.link;

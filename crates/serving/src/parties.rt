@@ -13,14 +13,13 @@ use octets::CallReference;
 use octets::LinkId;
 ghost use mathlib.Core.Path.{_≡_};
 ghost use Rattle.octets.specs.Lists.{find as findIn};
-ghost use Rattle.board.specs.Entries.{rowEntry, foundEntry, foundParty};
+ghost use Rattle.board.specs.Entries.{rowEntry, foundEntry, foundParty, hasPartyLinkId, rowParty};
 ghost use Rattle.rules.specs.Checks.{named as namedIn, entryAt};
-ghost use Rattle.rules.specs.Serving.{hasLinkId};
-ghost use Rattle.serving.specs.Code.Parties.{partyIn, entriesOf, partiesOf};
+ghost use Rattle.serving.specs.Code.Parties.{entriesOf, partiesOf};
 
 // The party of a row with a call.
 pub fn party_of(row: Row) -> FoundParty
-    ensures { λ r. ⌜ r ≡ foundParty (partyIn row) ⌝ }
+    ensures { λ r. ⌜ r ≡ foundParty (rowParty row) ⌝ }
 {
     let standing = row.standing;
     match standing {
@@ -57,7 +56,7 @@ pub fn named(board: Board, reference: CallReference) -> FoundParty
 
 // The party whose call has the LinkId.
 pub fn linked(board: Board, id: LinkId) -> FoundParty
-    ensures { λ r. ⌜ r ≡ foundParty (findIn (hasLinkId id) (partiesOf board)) ⌝ }
+    ensures { λ r. ⌜ r ≡ foundParty (findIn (hasPartyLinkId (id .0)) (partiesOf board)) ⌝ }
 {
     party_of(find_row(board, Key::LinkId(id)))
 }

@@ -15,7 +15,7 @@ use borrow.Author.Tests.{eq-eqb, ne-eqb}
 use Rattle.octets.specs.Lists.{any, all, distinct, consOpt, pick}
 use Rattle.octets.proofs.Lists.{true-not-false, both, eqb-eq, all-at, all-by, none-by, or-right}
 use Rattle.octets.proofs.Loops.{Step, Past, step-first, past-first, all-yes, all-no, all-end, distinct-yes, distinct-no, distinct-end, pick-skip}
-use Rattle.octets.proofs.Places.{pickOpt, pick-pick}
+use Rattle.octets.proofs.Places.{pick-pick}
 use Rattle.board.specs.declared.OptionalLinkId.{OptionalLinkId}
 use Rattle.board.specs.declared.OptionalLinkId.the-variants.{Absent, Present}
 use Rattle.board.specs.declared.Standing.{Standing}
@@ -27,11 +27,12 @@ use Rattle.board.specs.Entries.{entry, entryOf, rowEntry, taken, occupied, link
 use Rattle.board.specs.Soundness.{answersTo, partnered}
 use Rattle.row_tests.specs.Code.RowKeys.{linkNumber, callKey, keyOf, joinedEntry}
 use Rattle.soundness.specs.Code.Columns.{legIn, referenceIn, linkIn, ownIn, partnerIn, alertingIn, joinedEntries}
+use Rattle.octets.specs.Tests.{bindOption}
 
 -- ---- a column that is being read: its first n numbers are what f finds in the entries of the first i rows
 
 abbrev pub inRow : (Entry → Option ℕ) → Row → Option ℕ
-inRow f r = pickOpt f (rowEntry r)
+inRow f r = bindOption f (rowEntry r)
 
 pub record Column (f : Entry → Option ℕ) (rows : List Row) (i : ℕ) (column : List ℕ) (n : ℕ) : Type 0 where
   pub within : n ≤ i
@@ -69,7 +70,7 @@ column-skip {f} {rows} {i} {column} {n} d h e t = record {
   long = t .long;
   holds =
       t .holds
-      ∙ sym (pick-skip (inRow f) (take i rows) (getD rows i d) (ap (pickOpt f) e))
+      ∙ sym (pick-skip (inRow f) (take i rows) (getD rows i d) (ap (bindOption f) e))
       ∙ one-more (inRow f) rows i d h;
 }
 
@@ -105,12 +106,12 @@ column-end {f} {rows} {i} {column} {n} h t =
 
 -- ---- what a row puts into each column
 
-pub gives-leg : (leg : ℕ) (s : Standing) → occupied s ≡ true → Gives (pickOpt legIn (entryOf leg s)) 1 leg
+pub gives-leg : (leg : ℕ) (s : Standing) → occupied s ≡ true → Gives (bindOption legIn (entryOf leg s)) 1 leg
 gives-leg leg Empty e = absurd (true-not-false e refl)
 gives-leg leg (Served c) e = record { is = refl; one = omega arith }
 gives-leg leg (Joined p a) e = record { is = refl; one = omega arith }
 
-pub gives-reference : (leg : ℕ) (s : Standing) → Gives (pickOpt referenceIn (entryOf leg s)) (keyOf s .served) (keyOf s .reference)
+pub gives-reference : (leg : ℕ) (s : Standing) → Gives (bindOption referenceIn (entryOf leg s)) (keyOf s .served) (keyOf s .reference)
 unfolding keyOf
 gives-reference leg Empty = record { is = refl; one = omega arith }
 gives-reference leg (Served c) = go (c .reference .0) (c .link)
@@ -120,7 +121,7 @@ gives-reference leg (Served c) = go (c .reference .0) (c .link)
     go n (Present l) = record { is = refl; one = omega arith }
 gives-reference leg (Joined p a) = record { is = refl; one = omega arith }
 
-pub gives-link : (leg : ℕ) (s : Standing) → Gives (pickOpt linkIn (entryOf leg s)) (keyOf s .linked) (keyOf s .link)
+pub gives-link : (leg : ℕ) (s : Standing) → Gives (bindOption linkIn (entryOf leg s)) (keyOf s .linked) (keyOf s .link)
 unfolding keyOf
 gives-link leg Empty = record { is = refl; one = omega arith }
 gives-link leg (Served c) = go (c .reference .0) (c .link)
@@ -134,19 +135,19 @@ call-joins-not : {v : ℕ} (n : ℕ) (l : OptionalLinkId) → Gives none (callKe
 call-joins-not n Absent = record { is = refl; one = omega arith }
 call-joins-not n (Present l) = record { is = refl; one = omega arith }
 
-pub gives-own : (leg : ℕ) (s : Standing) → Gives (pickOpt ownIn (entryOf leg s)) (keyOf s .joined) leg
+pub gives-own : (leg : ℕ) (s : Standing) → Gives (bindOption ownIn (entryOf leg s)) (keyOf s .joined) leg
 unfolding keyOf
 gives-own leg Empty = record { is = refl; one = omega arith }
 gives-own leg (Served c) = call-joins-not (c .reference .0) (c .link)
 gives-own leg (Joined p a) = record { is = refl; one = omega arith }
 
-pub gives-partner : (leg : ℕ) (s : Standing) → Gives (pickOpt partnerIn (entryOf leg s)) (keyOf s .joined) (keyOf s .partner)
+pub gives-partner : (leg : ℕ) (s : Standing) → Gives (bindOption partnerIn (entryOf leg s)) (keyOf s .joined) (keyOf s .partner)
 unfolding keyOf
 gives-partner leg Empty = record { is = refl; one = omega arith }
 gives-partner leg (Served c) = call-joins-not (c .reference .0) (c .link)
 gives-partner leg (Joined p a) = record { is = refl; one = omega arith }
 
-pub gives-alerting : (leg : ℕ) (s : Standing) → Gives (pickOpt alertingIn (entryOf leg s)) (keyOf s .joined) (keyOf s .alerting)
+pub gives-alerting : (leg : ℕ) (s : Standing) → Gives (bindOption alertingIn (entryOf leg s)) (keyOf s .joined) (keyOf s .alerting)
 unfolding keyOf
 gives-alerting leg Empty = record { is = refl; one = omega arith }
 gives-alerting leg (Served c) = call-joins-not (c .reference .0) (c .link)

@@ -2,9 +2,9 @@ use mathlib.Core.Path.{sym, ap, _∙_}
 use mathlib.Core.Bool.{Bool, cond}
 use Rattle.octets.specs.Lists.{find}
 use Rattle.octets.proofs.Places.{told}
-use Rattle.board.specs.Entries.{taken, calls}
+use Rattle.board.specs.Entries.{taken, calls, hasPartyLinkId}
 use Rattle.rules.specs.declared.Service.the-variants.{Transfer}
-use Rattle.rules.specs.Serving.{hasLinkId, executeExplicitly, error}
+use Rattle.rules.specs.Serving.{executeExplicitly, error}
 use Rattle.serving.proofs.PartyLaws.{party-none, party-some}
 use borrow.Author.Needs.{needs}
 use Rattle.serving.proofs.execute_explicitly.Statement.{statement}
@@ -24,7 +24,7 @@ returns c =
     let s = c .before .before .before in
     sym
     (ap (executeExplicitly (s .args .board .options) (s .args .named) (s .args .identifier))
-    (party-none (find (hasLinkId (s .args .id)) (calls (taken (s .args .board .rows))))
+    (party-none (find (hasPartyLinkId (s .args .id .0)) (calls (taken (s .args .board .rows))))
     (told (c .before .before .linked .ensures) (c .enum-told .given .1))))
 
 is-partner-requires : tie.Need-is-partner-requires
@@ -35,7 +35,7 @@ returns-2 c =
     let s = c .before .before .before .before .before .before .before in
     sym
     (ap (executeExplicitly (s .args .board .options) (s .args .named) (s .args .identifier))
-    (party-some (find (hasLinkId (s .args .id)) (calls (taken (s .args .board .rows))))
+    (party-some (find (hasPartyLinkId (s .args .id .0)) (calls (taken (s .args .board .rows))))
     (told (c .before .before .before .before .before .before .linked .ensures) (c .before .before .before .before .other .given .1)))
     ∙ ap
     (λ (x : Bool). cond x (Transfer (s .args .named) (c .before .before .before .before .other .given .0 .0) (s .args .identifier))
@@ -51,7 +51,7 @@ returns-3 c =
     c .failed .ensures
     ∙ sym
     (ap (executeExplicitly (s .args .board .options) (s .args .named) (s .args .identifier))
-    (party-some (find (hasLinkId (s .args .id)) (calls (taken (s .args .board .rows))))
+    (party-some (find (hasPartyLinkId (s .args .id .0)) (calls (taken (s .args .board .rows))))
     (told (c .before .before .before .before .before .before .before .linked .ensures) (c .before .before .before .before .before .other .given .1)))
     ∙ ap
     (λ (x : Bool). cond x (Transfer (s .args .named) (c .before .before .before .before .before .other .given .0 .0) (s .args .identifier))

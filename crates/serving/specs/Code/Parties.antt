@@ -16,22 +16,14 @@ use Rattle.board.specs.declared.Options.{Options}
 use Rattle.board.specs.declared.Board.{Board}
 use Rattle.board.specs.declared.Entry.{Entry}
 use Rattle.board.specs.declared.Party.{Party}
-use Rattle.board.specs.Entries.{taken, calls}
-use Rattle.board.specs.LinkIds.{mostLinkIds, freeLinkId}
-use Rattle.rules.specs.Serving.{partnerFor, live, hasLinkId, perform}
+use Rattle.board.specs.Entries.{taken, calls, hasPartyLinkId, rowParty}
+use Rattle.board.specs.LinkIds.{mostLinkIds, freeLinkId, live}
+use Rattle.rules.specs.Serving.{partnerFor, perform}
 use Rattle.rules.specs.declared.Service.{Service}
-
-abbrev pub standingParty : ℕ → Standing → Option Party
-standingParty leg Empty = none
-standingParty leg (Served c) = some (record { leg = leg; call = c })
-standingParty leg (Joined p a) = none
-
-abbrev pub partyIn : Row → Option Party
-partyIn r = standingParty (r .leg) (r .standing)
 
 -- the row has a call that pairs with the named one
 abbrev pub hasPartner : Options → Party → Row → Bool
-hasPartner o named row = has (partnerFor o named) (partyIn row)
+hasPartner o named row = has (partnerFor o named) (rowParty row)
 
 -- the rows taken of a board, and its calls with the served user
 abbrev pub entriesOf : Board → List Entry
@@ -49,7 +41,7 @@ abbrev pub pairedOn : Board → Party → List Party
 pairedOn b p = keep (partnerFor (b .options) p) (partiesOf b)
 
 abbrev pub linkedOn : Board → LinkId → Option Party
-linkedOn b l = find (hasLinkId l) (partiesOf b)
+linkedOn b l = find (hasPartyLinkId (l .0)) (partiesOf b)
 
 -- what an operation comes to on the board
 abbrev pub performedOn : Board → Party → IntegerOctets → Operation → Service

@@ -6,11 +6,12 @@ use native.Mathlib.Omega.{arith}
 use mathlib.Core.Path.{_≡_, ap, _∙_}
 use Rattle.octets.specs.declared.LinkId.{LinkId}
 use Rattle.octets.proofs.Places.{told}
-use Rattle.board.specs.LinkIds.{mostLinkIds, liveLinkIds, freeLinkId, optionalLinkId}
+use Rattle.board.specs.LinkIds.{mostLinkIds, live, freeLinkId, optionalLinkId}
 use Rattle.board.proofs.FreeLinkIds.{free-here, free-next, free-end}
+use Rattle.board.specs.Entries.{taken, calls}
 
 abbrev Inv-loop : tie.InvT-loop
-Inv-loop board id₀ k₀ id k = (k ≤ mostLinkIds) × (freeLinkId (mostLinkIds - k) (id .0) (liveLinkIds (board .rows)) ≡ freeLinkId mostLinkIds (id₀ .0) (liveLinkIds (board .rows)))
+Inv-loop board id₀ k₀ id k = (k ≤ mostLinkIds) × (freeLinkId (mostLinkIds - k) (id .0) (live (calls (taken (board .rows)))) ≡ freeLinkId mostLinkIds (id₀ .0) (live (calls (taken (board .rows)))))
 
 abbrev μ-loop : tie.MeasureT-loop
 μ-loop board id₀ k₀ id k = mostLinkIds - k
@@ -43,10 +44,10 @@ loop-again : tie.Need-loop-again Inv-loop μ-loop
 loop-again c =
     let rows = c .before .before .before .before .before .before .args .board .rows in
     let k = c .before .before .before .before .before .loop .k in
-    (search needs, ap (λ (l : LinkId). freeLinkId (mostLinkIds - (k + 1)) (l .0) (liveLinkIds rows)) (c .next .ensures) ∙ free-next (c .before .before .before .before .before .loop .id) rows mostLinkIds k (omega arith) _ (told (c .before .before .before .find .ensures) (c .before .enum-told2 .given .1)) ∙ c .before .before .before .before .before .loop .inv .1)
+    (search needs, ap (λ (l : LinkId). freeLinkId (mostLinkIds - (k + 1)) (l .0) (live (calls (taken rows)))) (c .next .ensures) ∙ free-next (c .before .before .before .before .before .loop .id) rows mostLinkIds k (omega arith) _ (told (c .before .before .before .find .ensures) (c .before .enum-told2 .given .1)) ∙ c .before .before .before .before .before .loop .inv .1)
 
 returns-2 : tie.Need-returns-2 Inv-loop μ-loop
-returns-2 c = ap optionalLinkId (free-end (c .before .loop .id .0) (liveLinkIds (c .before .before .args .board .rows)) mostLinkIds (c .before .loop .k) (omega arith) ∙ c .before .loop .inv .1)
+returns-2 c = ap optionalLinkId (free-end (c .before .loop .id .0) (live (calls (taken (c .before .before .args .board .rows)))) mostLinkIds (c .before .loop .k) (omega arith) ∙ c .before .loop .inv .1)
 
 pub free-from-spec : {M : Type 1} → statement M
 free-from-spec =

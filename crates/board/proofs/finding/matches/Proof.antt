@@ -1,9 +1,6 @@
 use borrow.Author.Needs.{needs}
 use Rattle.board.proofs.finding.matches.Statement.{statement}
 use Rattle.board.proofs.finding.matches.Tie as tie
-use mathlib.Core.Path.{ap, _∙_}
-use Rattle.board.specs.declared.OptionalLinkId.{OptionalLinkId}
-use Rattle.board.specs.Entries.{linkIdIn, isLinkId}
 
 enum-known-key : tie.Need-enum-known-key
 enum-known-key c = search needs
@@ -20,11 +17,8 @@ is-occupied-requires c κs = search needs
 enum-known-key-3 : tie.Need-enum-known-key-3
 enum-known-key-3 c = search needs
 
-link-of-requires : tie.Need-link-of-requires
-link-of-requires c κs = search needs
-
-is-link-id-requires : tie.Need-is-link-id-requires
-is-link-id-requires c κs = search needs
+has-link-id-requires : tie.Need-has-link-id-requires
+has-link-id-requires c κs = search needs
 
 enum-told : tie.Need-enum-told
 enum-told c = search needs
@@ -39,7 +33,7 @@ returns-2 : tie.Need-returns-2
 returns-2 c = rw (c .before .before .before .key2 .given .1, c .before .is-occupied .ensures)
 
 returns-3 : tie.Need-returns-3
-returns-3 c = rw (c .before .before .before .key3 .given .1) (c .is-link-id .ensures ∙ ap (λ (o : OptionalLinkId). isLinkId (c .before .before .before .key3 .given .0 .0 .0) (linkIdIn o)) (c .before .link-of .ensures))
+returns-3 c = rw (c .before .before .key3 .given .1) (c .has-link-id .ensures)
 
 returns-4 : tie.Need-returns-4
 returns-4 c = search needs
@@ -53,8 +47,7 @@ matches-spec =
     enum-known-key-2
     is-occupied-requires
     enum-known-key-3
-    link-of-requires
-    is-link-id-requires
+    has-link-id-requires
     enum-told
     is-occupied-requires-2
     returns

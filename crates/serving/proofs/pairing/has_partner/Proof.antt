@@ -2,11 +2,11 @@ use mathlib.Core.Path.{sym, ap, _∙_}
 use Rattle.octets.proofs.Places.{told}
 use Rattle.octets.specs.Tests.{has}
 use Rattle.rules.specs.Serving.{partnerFor}
-use Rattle.serving.specs.Code.Parties.{partyIn}
 use Rattle.serving.proofs.PartyLaws.{party-none, party-some}
 use borrow.Author.Needs.{needs}
 use Rattle.serving.proofs.pairing.has_partner.Statement.{statement}
 use Rattle.serving.proofs.pairing.has_partner.Tie as tie
+use Rattle.board.specs.Entries.{rowParty}
 
 party-of-requires : tie.Need-party-of-requires
 party-of-requires c κs = search needs
@@ -22,7 +22,7 @@ returns c =
     let s = c .before .before .before in
     sym
     (ap (has (partnerFor (s .args .options) (s .args .named)))
-    (party-none (partyIn (s .args .row)) (told (c .before .before .party-of .ensures) (c .enum-told .given .1))))
+    (party-none (rowParty (s .args .row)) (told (c .before .before .party-of .ensures) (c .enum-told .given .1))))
 
 is-partner-requires : tie.Need-is-partner-requires
 is-partner-requires c κs = search needs
@@ -33,7 +33,7 @@ returns-2 c =
     c .is-partner .ensures
     ∙ sym
     (ap (has (partnerFor (s .args .options) (s .args .named)))
-    (party-some (partyIn (s .args .row)) (told (c .before .before .before .before .party-of .ensures) (c .before .before .other .given .1))))
+    (party-some (rowParty (s .args .row)) (told (c .before .before .before .before .party-of .ensures) (c .before .before .other .given .1))))
 
 pub has-partner-spec : {M : Type 1} → statement M
 has-partner-spec =
