@@ -26,11 +26,11 @@ use Rattle.component.specs.declared.Reading.{Reading}
 use Rattle.component.specs.declared.Reading.the-variants.{Ignored, Rejected, Invoked}
 use Rattle.rules.specs.Checks.{decide, Decision, Refuse, Accept, accept, opening, named, mayProgress, mayHold, releaseOf, serviceDecision, decideOpen, decideProgress, decideHold, entryAt, decideRelease, decideFacility, decideAlerting, decideAnswer}
 use Rattle.rules.specs.History.{opensLeg, endsLeg}
-use Rattle.rules.specs.Replies.{Written, nothing, replied, releaseReplies, answerTold}
+use Rattle.rules.specs.Replies.{Written, nothing, releaseReplies, answerTold}
 use Rattle.rules.proofs.Lengths.{Short, nothing-short, reply-short}
 use Rattle.board.specs.declared.Change.the-variants as change
 use Rattle.events.specs.Refusals.{refusalNumber}
-use Rattle.events.specs.EventRecords.{Answer, Request, Open, Progress, Hold, Release, Facility, Malformed}
+use Rattle.events.specs.EventRecords.{Answer, Request, Open, Progress, Hold, Release, Facility, Malformed, inRange}
 use Rattle.rules.specs.Serving.{Service, Silent, Respond, assign, AssignLinkId, partnerFor, Transfer, execute, executeExplicitly, error, newLinkId, linkIdRequest, perform, serve}
 use Rattle.events.specs.declared.Refusal.{Refusal}
 use Rattle.octets.proofs.Lists.{keep-mem, only-mem, find-mem}
@@ -107,7 +107,7 @@ module _ (opt : Options) (z : ℤ) (w : Bool) (es : List Entry) where
   pub data Decided : Request → Decision → Type 0 where
     refuses : {q : Request} (c : Refusal) → Decided q (Refuse c)
     -- an event that opens and ends no leg and changes nothing, whatever it writes
-    changes-nothing : {q : Request} {w : Written} → ((l : ℕ) → opensLeg l q ≡ false) → ((l : ℕ) → endsLeg es l q ≡ false) → Short w → Decided q (Accept none w)
+    changes-nothing : {q : Request} {w : Written} → ((l : ℕ) → opensLeg l q ≡ false) → ((l : ℕ) → endsLeg es l q ≡ false) → (inRange q ≡ true → Short w) → Decided q (Accept none w)
     opens-leg : {r l : ℕ} {d : Direction} {n : PartyNumber} → any (hasLeg l) es ≡ false → any (hasReference r) es ≡ false → w ≡ false →
         Decided (Open r l d n) (opening r l d n)
     sets-state : {r : ℕ} {s : CallState} {p : Party} → named r es ≡ some p → mayProgress (p .call .state) s ≡ true →
@@ -150,8 +150,8 @@ module _ (opt : Options) (z : ℤ) (w : Bool) (es : List Entry) where
   release-is l (some x) e = let m = find-mem (hasLeg l) es e in releases (m .0) (m .1)
 
   service-is : (r : ℕ) (c : List ℕ) (p : Party) {v : Service} → List·Memᴰ p (calls es) → ComesTo opt z (calls es) p v → Decided (Facility r c) (serviceDecision opt p v)
-  service-is r c p m silent = changes-nothing (λ l. refl) (λ l. refl) nothing-short
-  service-is r c p m (respond a) = changes-nothing (λ l. refl) (λ l. refl) (reply-short (p .call .reference .0) a)
+  service-is r c p m silent = changes-nothing (λ l. refl) (λ l. refl) (λ h. nothing-short)
+  service-is r c p m (respond a) = changes-nothing (λ l. refl) (λ l. refl) (λ h. reply-short (p .call .reference .0) a)
   service-is r c p m (assigned i e h) = assigns-link-id i m e h
   service-is r c p m (transferred i n h) = transfers i m n h
 

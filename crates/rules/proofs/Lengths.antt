@@ -2,13 +2,17 @@
 use Prim.Native.Nat.{_+_, _-_, _≤_, ℕ, zero-le}
 use native.Mathlib.Omega.{arith}
 use mathlib.Core.Path.{_≡_, refl}
-use mathlib.Core.Bool.{true, false, Bool}
+use mathlib.Core.Bool.{_&&_, true, false, Bool}
 use mathlib.Core.List.{_++_, _∷_, List, []}
-use lib.ListN.{length, length-append, replicate, length-replicate}
+use lib.Dec.{eqb, leb}
+use lib.ListN.{length, take, length-append, replicate, length-replicate}
+use Rattle.octets.proofs.Lists.{eqb-eq, left}
+use Rattle.octets.specs.Lists.{all}
+use Rattle.board.specs.Soundness.{validDigits}
 use Rattle.component.proofs.Length.{answer-length}
 use Rattle.component.specs.Answers.{answerOctets}
 use Rattle.component.specs.declared.Answer.{Answer}
-use Rattle.rules.specs.Replies.{recordOctets, Reply, Number, told, ReplyRecord, octets, drops, DropOrder, NamedFirst, OtherFirst, Written, nothing, replied}
+use Rattle.rules.specs.Replies.{recordOctets, Reply, Tell, Number, told, ReplyRecord, octets, drops, DropOrder, NamedFirst, OtherFirst, Written, nothing, replied}
 
 pub reply-length : (r : ℕ) (a : Answer) → length (recordOctets (Reply r a)) ≡ 36
 reply-length r a =
@@ -43,6 +47,14 @@ transfer-length order r x a b rest h =
     let e = length-append (recordOctets (Reply r x)) (octets (drops order a b ++ rest)) in
     omega (arith, reply-length r x, drops-length order a b rest, h)
 
+-- the digits of a valid number
+pub fifteen : (n : ℕ) (ds : List ℕ) → validDigits n ds ≡ true → length ds ≡ 15
+fifteen n ds h =
+    eqb-eq (length ds) 15
+    (left (eqb (length ds) 15) (leb n 15)
+    (left (eqb (length ds) 15 && leb n 15) _
+    (left (eqb (length ds) 15 && leb n 15 && all (λ (d : ℕ). leb 48 d && leb d 57) (take n ds)) _ h)))
+
 -- what is written fits, where each number has 15 digits
 pub record Short (w : Written) : Type 0 where
   pub fits : (order : DropOrder) (numbers : ℕ → Number) → ((l : ℕ) → length (numbers l .digits) ≡ 15) → length (octets (w order numbers)) ≤ 92
@@ -53,3 +65,8 @@ nothing-short = record { fits = λ order numbers k. zero-le }
 
 pub reply-short : (r : ℕ) (a : Answer) → Short (replied r a)
 reply-short r a = record { fits = λ order numbers k. omega (arith, one-length (Reply r a), reply-length r a) }
+
+-- one Tell, with a number of 15 digits
+pub tell-short : (l m d : ℕ) (number : (ℕ → Number) → Number) (s : ℕ) → ((numbers : ℕ → Number) → ((l : ℕ) → length (numbers l .digits) ≡ 15) → length (number numbers .digits) ≡ 15) →
+    Short (λ order numbers. Tell l m d (number numbers) s ∷ [])
+tell-short l m d number s h = record { fits = λ order numbers k. omega (arith, h numbers k, one-length (Tell l m d (number numbers) s)) }

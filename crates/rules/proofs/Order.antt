@@ -28,8 +28,8 @@ use Rattle.octets.proofs.Lists.{keep-pick-le, Perm, length-perm, pick-perm, any
 use Rattle.octets.specs.Lists.{keep, any}
 use Rattle.octets.specs.Numbers.{sameInteger, nextLinkId}
 use Rattle.octets.specs.declared.IntegerOctets.{IntegerOctets}
-use Rattle.events.specs.declared.Refusal.the-variants as refusal
 use Rattle.octets.specs.Tests.{has}
+use Rattle.events.specs.declared.Refusal.the-variants as refusal
 
 -- ---- one call for a reference, one for a LinkId
 

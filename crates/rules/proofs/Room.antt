@@ -3,7 +3,7 @@ use Prim.Native.Nat.{_≤_, ℕ, zero-le}
 use native.Mathlib.Omega.{arith}
 use mathlib.Core.Path.{_≡_, refl}
 use mathlib.Core.Bool.{_&&_, true, false, Bool, cond}
-use mathlib.Core.List.{_∷_, List, []}
+use mathlib.Core.List.{List}
 use mathlib.Core.Option.{Option, none, some}
 use lib.Dec.{eqb, leb, ltb}
 use lib.IntN.{ℤ}
@@ -25,26 +25,20 @@ use Rattle.board.specs.declared.Standing.the-variants.{Empty, Served, Joined}
 use Rattle.component.specs.declared.Answer.the-variants as answer
 use Rattle.octets.specs.declared.IntegerOctets.{IntegerOctets}
 use Rattle.rules.proofs.Decided.{Decided, refuses, changes-nothing, opens-leg, sets-state, sets-auxiliary, releases, assigns-link-id, transfers, ends-alerting, decided}
-use Rattle.rules.proofs.Lengths.{Short, nothing-short, reply-short, one-length, tells-length, transfer-length}
+use Rattle.rules.proofs.Agreement.{request-in}
+use Rattle.rules.proofs.Lengths.{Short, fifteen, nothing-short, reply-short, tell-short, tells-length, transfer-length}
 use Rattle.rules.specs.Checks.{Decision, writtenBy}
 use Rattle.events.specs.Refusals.{refusalNumber}
-use Rattle.events.specs.EventRecords.{Request, request}
-use Rattle.rules.specs.Replies.{numberAt, Number, markOnly, numberOfRow, octets, DropOrder, tells, Tell, facility, transferredActive, transferReplies, releaseReplies, answerTold}
+use Rattle.events.specs.EventRecords.{Request, request, inRange}
+use Rattle.rules.specs.Replies.{numberAt, Number, markOnly, numberOfRow, octets, DropOrder, tells, facility, transferredActive, transferReplies, releaseReplies, answerTold}
 use Rattle.rules.specs.Step.{replies, step, stepTested, Outcome, refused, done, decision}
-use Rattle.octets.proofs.Lists.{eqb-eq, left, true-not-false, right, find-mem, all-at}
+use Rattle.octets.proofs.Lists.{left, true-not-false, right, find-mem, all-at}
 use Rattle.octets.specs.Lists.{all, find}
 use Rattle.events.specs.declared.Refusal.the-variants as refusal
 
 -- ---- a number has 15 digits
 
 -- the digits of a valid row that is taken
-fifteen : (n : ℕ) (ds : List ℕ) → validDigits n ds ≡ true → length ds ≡ 15
-fifteen n ds h =
-    eqb-eq (length ds) 15
-    (left (eqb (length ds) 15) (leb n 15)
-    (left (eqb (length ds) 15 && leb n 15) _
-    (left (eqb (length ds) 15 && leb n 15 && all (λ (d : ℕ). leb 48 d && leb d 57) (take n ds)) _ h)))
-
 row-digits : (l : ℕ) (n : PartyNumber) (t : Standing) → occupied t ≡ true → validStanding l n t ≡ true → length (n .digits) ≡ 15
 row-digits l n Empty o h = absurd (true-not-false o refl)
 row-digits l n (Served c) o h = fifteen (n .count) (n .digits) (right (leb (n .presentation) 1) (validDigits (n .count) (n .digits)) h)
@@ -86,18 +80,18 @@ release-short (WithUser c) = record { fits = λ order numbers k. omega arith }
 release-short (WithPartner p a) = record { fits = λ order numbers k. omega arith }
 
 answer-short : (o : Options) (l p : ℕ) → Short (answerTold o l p)
-answer-short o l p = record { fits = λ order numbers k. omega (arith, k l, one-length (Tell p facility transferredActive (numbers l) 0)) }
+answer-short o l p = tell-short p facility transferredActive (λ (numbers : ℕ → Number). numbers l) 0 (λ numbers k. k l)
 
-short-by : {opt : Options} {z : ℤ} {w : Bool} {es : List Entry} {q : Request} {d : Decision} → Decided opt z w es q d → Short (writtenBy d)
-short-by (refuses c) = nothing-short
-short-by (changes-nothing f g h) = h
-short-by (opens-leg e f g) = nothing-short
-short-by (sets-state e h) = nothing-short
-short-by (sets-auxiliary e h) = nothing-short
-short-by (releases {e = e} m h) = release-short (e .connection)
-short-by (assigns-link-id {p = p} {y = y} i m e h) = reply-short (p .call .reference .0) (answer.LinkIdResult i (record { 0 = y }))
-short-by {opt} (transfers {p = p} {o = q} i m n h) = transfer-short opt (p .call .reference .0) i p q
-short-by {opt} (ends-alerting {l = l} {p = p}) = answer-short opt l p
+short-by : {opt : Options} {z : ℤ} {w : Bool} {es : List Entry} {q : Request} {d : Decision} → inRange q ≡ true → Decided opt z w es q d → Short (writtenBy d)
+short-by k (refuses c) = nothing-short
+short-by k (changes-nothing f g h) = h k
+short-by k (opens-leg e f g) = nothing-short
+short-by k (sets-state e h) = nothing-short
+short-by k (sets-auxiliary e h) = nothing-short
+short-by k (releases {e = e} m h) = release-short (e .connection)
+short-by k (assigns-link-id {p = p} {y = y} i m e h) = reply-short (p .call .reference .0) (answer.LinkIdResult i (record { 0 = y }))
+short-by {opt} k (transfers {p = p} {o = q} i m n h) = transfer-short opt (p .call .reference .0) i p q
+short-by {opt} k (ends-alerting {l = l} {p = p}) = answer-short opt l p
 
 -- whatever the board, the event and the buffer, what is written fits
 pub room-enough : (order : DropOrder) (b : Board) (os : List ℕ) (room : ℕ) → length (octets (step order b os room .replies)) ≤ 92
@@ -108,6 +102,6 @@ room-enough order b os room = go (ltb room 128) (sound b) refl
         length (octets ((cond {A = Outcome} x (refused (refusalNumber refusal.BufferTooSmall) b) (cond y (done order b (decision b os)) (refused (refusalNumber refusal.UnsoundBoard) b))) .replies)) ≤ 92
     go true y h = zero-le
     go false true h =
-        short-by (decided (b .options) (b .candidate .0) (full (b .rows)) (taken (b .rows)) (request os)) .fits order (numberAt (b .rows))
+        short-by (request-in os) (decided (b .options) (b .candidate .0) (full (b .rows)) (taken (b .rows)) (request os)) .fits order (numberAt (b .rows))
         (number-length (b .rows) (left (all validRow (b .rows)) _ (right (validOptions (b .options)) _ h)))
     go false false h = zero-le

@@ -11,7 +11,6 @@ use lib.ListN.{length, length-map}
 use lib.IntN.{ℤ}
 use Rattle.board.specs.declared.PartyNumber.{PartyNumber}
 use Rattle.board.specs.Changes.{changedCall, joined, answered, emptiedIf, changedRows, rowAfter, enter, full, enterAt, withLinkId, withState, withAuxiliary, mapStanding}
-use Rattle.board.specs.declared.Connection.{Connection}
 use Rattle.board.specs.declared.Connection.the-variants.{WithPartner, WithUser}
 use Rattle.board.specs.declared.Entry.{Entry}
 use Rattle.board.specs.Entries.{taken, rowEntry, entryOf, occupied, isNumber}
@@ -28,7 +27,7 @@ use Rattle.rules.proofs.Decided.{decided, Decided, refuses, changes-not
 use Rattle.rules.specs.Book.{mapConnection, changeCall, joinLegs, endAlerting, stays, changedEntries, entriesAfter, movedBy, candidateMoves}
 use Rattle.rules.specs.Checks.{BoardChange, Enter, Apply, Decision, decide, changeOf, newLinkIdOf}
 use Rattle.events.specs.EventRecords.{Request, inRange}
-use Rattle.rules.specs.Step.{rowsAfter, candidateBy, candidateAfter}
+use Rattle.rules.specs.Step.{enteredRow, rowsAfter, candidateBy, candidateAfter}
 use Rattle.octets.proofs.Lists.{Perm, true-not-false, p-trans, p-skip, p-swap, p-of, is-not, is-true, right, p-refl, map-perm, keep-perm, all-map, all-ext, left, all-by, all-at, both}
 use Rattle.octets.specs.Lists.{consOpt, keep, all, consIf, any}
 use Rattle.octets.specs.declared.CallReference.{CallReference}
@@ -168,7 +167,7 @@ fine opt z w es q h = fine-by h (decided opt z w es q)
 pub view : (c : Option BoardChange) (rows : List Row) → Fine (full rows) c → Perm (taken (rowsAfter c rows)) (entriesAfter c (taken rows))
 unfolding rowsAfter entriesAfter
 view none rows h = p-refl (taken rows)
-view (some (Enter p n)) rows h = enter-shown (record { leg = p .leg; number = n; standing = Served (p .call) }) (p .call) rows refl (h .0)
+view (some (Enter p n)) rows h = enter-shown (enteredRow p n) (p .call) rows refl (h .0)
 view (some (Apply c)) rows h = p-of (change-view c rows)
 
 change-perm : (c : Change) {l m : List Entry} → Perm l m → Perm (changedEntries c l) (changedEntries c m)
@@ -270,5 +269,5 @@ change-right (change.ReleasePair l p) rows k = emptied-right (λ (r : Row). eqb 
 pub rows-right : (w : Bool) (c : Option BoardChange) (rows : List Row) → Fine w c → all validRow rows ≡ true → all validRow (rowsAfter c rows) ≡ true
 unfolding rowsAfter validRow
 rows-right w none rows h k = k
-rows-right w (some (Enter p n)) rows h k = enter-right (record { leg = p .leg; number = n; standing = Served (p .call) }) rows (h .1) k
+rows-right w (some (Enter p n)) rows h k = enter-right (enteredRow p n) rows (h .1) k
 rows-right w (some (Apply c)) rows h k = change-right c rows k

@@ -1,6 +1,6 @@
 -- One event on a board: what is returned, the board afterwards, and the reply records (document 01, "Event records", "Serving it").
 use Prim.Native.Nat.{ℕ}
-use mathlib.Core.Bool.{Bool, true, false, cond}
+use mathlib.Core.Bool.{Bool, cond}
 use mathlib.Core.List.{List, []}
 use mathlib.Core.Option.{Option, none, some}
 use lib.Dec.{ltb}
@@ -9,22 +9,26 @@ use Rattle.octets.specs.Numbers.{nextLinkId}
 use Rattle.board.specs.declared.Standing.the-variants.{Served}
 use Rattle.board.specs.declared.Row.{Row}
 use Rattle.board.specs.declared.Board.{Board}
-use Rattle.board.specs.declared.Entry.{Entry}
+use Rattle.board.specs.declared.Party.{Party}
 use Rattle.board.specs.Entries.{taken}
 use Rattle.board.specs.Soundness.{sound}
 use Rattle.board.specs.Changes.{changedRows, enter, full}
-use Rattle.events.specs.declared.Refusal.{Refusal}
 use Rattle.events.specs.declared.Refusal.the-variants.{BufferTooSmall, UnsoundBoard}
 use Rattle.events.specs.EventRecords.{request}
 use Rattle.rules.specs.Checks.{BoardChange, Enter, Apply, Decision, decide, returnedBy, changeOf, newLinkIdOf, writtenBy}
 use Rattle.events.specs.Refusals.{refusalNumber}
 use Rattle.rules.specs.Replies.{ReplyRecord, DropOrder, numberAt}
+use Rattle.board.specs.declared.PartyNumber.{PartyNumber}
 
 -- ---- the board afterwards
 
+-- the row of a far party with its number
+abbrev pub enteredRow : Party → PartyNumber → Row
+enteredRow p n = record { leg = p .leg; number = n; standing = Served (p .call) }
+
 -- "Open takes the lowest empty row"
 abbrev pub rowsBy : BoardChange → List Row → List Row
-rowsBy (Enter p n) rows = enter (record { leg = p .leg; number = n; standing = Served (p .call) }) rows
+rowsBy (Enter p n) rows = enter (enteredRow p n) rows
 rowsBy (Apply c) rows = changedRows c rows
 
 unfoldable pub rowsAfter : Option BoardChange → List Row → List Row

@@ -22,7 +22,7 @@ use Rattle.board.specs.Making.{emptyRow}
 use Rattle.rules.specs.Replies.{NamedFirst, numberAt}
 use Rattle.rules.specs.Checks as checks
 use Rattle.rules.specs.Checks.{Decision, Refuse, Accept, changeOf, assignedBy, opened, opening, named, decideOpen, decideFacility}
-use Rattle.rules.specs.Step.{replies, candidateBy}
+use Rattle.rules.specs.Step.{enteredRow, replies, candidateBy}
 use Rattle.effects.specs.declared.Acceptance.{Acceptance}
 use Rattle.effects.specs.declared.Acceptance.the-variants.{Accepted, Refused}
 use Rattle.effects.specs.declared.BoardChange.{BoardChange}
@@ -35,7 +35,7 @@ use Rattle.serving.specs.Code.Parties.{entriesOf}
 
 -- the row that an Open enters
 abbrev pub openedRow : ℕ → ℕ → Direction → PartyNumber → Row
-openedRow r l d n = record { leg = l; number = n; standing = Served (opened r d) }
+openedRow r l d n = enteredRow (record { leg = l; call = opened r d }) n
 
 abbrev pub effect : Acceptance → BoardChange → Row → Out → Effect
 effect a c row o = record { acceptance = a; change = c; row = row; out = o }
@@ -52,7 +52,7 @@ changeIn (some (checks.Apply c)) = Apply c
 
 abbrev pub rowIn : Option checks.BoardChange → Row
 rowIn none = emptyRow
-rowIn (some (checks.Enter p n)) = record { leg = p .leg; number = n; standing = Served (p .call) }
+rowIn (some (checks.Enter p n)) = enteredRow p n
 rowIn (some (checks.Apply c)) = emptyRow
 
 -- the board that a change makes of b, with the row that it enters
