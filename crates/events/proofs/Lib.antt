@@ -1,2 +1,3 @@
--- Laws of event records, for the proofs of this crate and of those above it.
+-- Laws of event records and of logs, for the proofs of this crate and of those above it.
 pub mod RecordLaws
+pub mod LogRecords

@@ -1,5 +1,5 @@
 -- Laws of event records in the code's terms: places of the whole record, and tests in the code's order. Assumes nothing.
-use Prim.Native.Nat.{ℕ, suc, _+_, _-_, _*_, _≤_, _<_}
+use Prim.Native.Nat.{ℕ, zero, suc, _+_, _-_, _*_, _≤_, _<_}
 use native.Mathlib.Omega.{arith}
 use native.Mathlib.Numerals.{add-one}
 use mathlib.Core.Path.{_≡_, refl, sym, _∙_}
@@ -24,6 +24,7 @@ use Rattle.events.specs.declared.Refusal.{Refusal}
 use Rattle.events.specs.declared.Refusal.the-variants.{WrongLength, UnknownKind, FieldOutOfRange}
 use Rattle.events.specs.declared.records.RequestHead.{RequestHead}
 use Rattle.events.specs.declared.records.RequestHead.the-variants as head
+use Rattle.events.specs.Records.{bodyLength, recordLength}
 use Rattle.events.specs.EventRecords.{Request, Malformed, Open, Progress, Hold, Release, Facility, Answer, field, directionOf}
 use Rattle.events.specs.EventRecords.{openBody, progressBody, holdBody, facilityBody, ranged, sized, ofKind, request}
 use Rattle.events.specs.Code.RecordValues.{requestOf, RecordRead}
@@ -91,47 +92,26 @@ module _ (n : ℕ) (ds : List ℕ) (l : length ds ≡ 15) where
 malformed : {os : List ℕ} {q : Request} {c : Refusal} → q ≡ Malformed c → RecordRead os (head.Malformed c) q
 malformed e = record { is = sym e; whole = refl; within = omega arith; small = omega arith }
 
-of-length : (os : List ℕ) (n : ℕ) (q : Request) → length os ≡ suc n → sized n (drop 1 os) q ≡ ranged q
-of-length os n q l =
-    let e : length (drop 1 os) ≡ n = omega (arith, length-drop 1 os) in
-    rw (eq-eqb (length (drop 1 os)) n e)
+of-length : (os : List ℕ) (k : ℕ) (q : Request) → length os ≡ recordLength k → sized k (drop 1 os) q ≡ ranged q
+of-length os k q l =
+    let e : length (drop 1 os) ≡ bodyLength k = omega (arith, length-drop 1 os) in
+    rw (eq-eqb (length (drop 1 os)) (bodyLength k) e)
 
-other-length : (os : List ℕ) (n : ℕ) (q : Request) → 0 < n → (length os ≡ suc n → ⊥) → RecordRead os (head.Malformed WrongLength) (sized n (drop 1 os) q)
-other-length os n q p h = malformed (rw (ne-eqb (length (drop 1 os)) n (λ (e : length (drop 1 os) ≡ n). h (omega (arith, length-drop 1 os)))))
-
+-- ---- a leg alone
 module _ (os : List ℕ) where
-  pub open-other-length : (length os ≡ 25 → ⊥) → RecordRead os (head.Malformed WrongLength) (ofKind 1 (drop 1 os))
-  open-other-length h = other-length os 24 (openBody (drop 1 os)) (omega arith) h
-
-  pub progress-other-length : (length os ≡ 4 → ⊥) → RecordRead os (head.Malformed WrongLength) (ofKind 2 (drop 1 os))
-  progress-other-length h = other-length os 3 (progressBody (field 0 2 (drop 1 os)) (getD (drop 1 os) 2 0)) (omega arith) h
-
-  pub hold-other-length : (length os ≡ 4 → ⊥) → RecordRead os (head.Malformed WrongLength) (ofKind 3 (drop 1 os))
-  hold-other-length h = other-length os 3 (holdBody (field 0 2 (drop 1 os)) (getD (drop 1 os) 2 0)) (omega arith) h
-
-  pub release-other-length : (length os ≡ 5 → ⊥) → RecordRead os (head.Malformed WrongLength) (ofKind 4 (drop 1 os))
-  release-other-length h = other-length os 4 (Release (field 0 4 (drop 1 os))) (omega arith) h
-
-  pub facility-other-length : (length os ≡ 36 → ⊥) → RecordRead os (head.Malformed WrongLength) (ofKind 5 (drop 1 os))
-  facility-other-length h = other-length os 35 (facilityBody (field 0 2 (drop 1 os)) (getD (drop 1 os) 2 0) (drop 3 (drop 1 os))) (omega arith) h
-
-  pub answer-other-length : (length os ≡ 5 → ⊥) → RecordRead os (head.Malformed WrongLength) (ofKind 6 (drop 1 os))
-  answer-other-length h = other-length os 4 (Answer (field 0 4 (drop 1 os))) (omega arith) h
-
-  -- ---- a leg alone
-  pub released : {n : ℕ} → length os ≡ 5 → n ≡ field 1 4 os → RecordRead os (head.Release n) (ofKind 4 (drop 1 os))
+  pub released : {n : ℕ} → length os ≡ recordLength 4 → n ≡ field 1 4 os → RecordRead os (head.Release n) (ofKind 4 (drop 1 os))
   released l e = record { is = rw (e, of-length os 4 (Release (field 0 4 (drop 1 os))) l); whole = refl; within = omega arith; small = omega arith }
 
-  pub answered : {n : ℕ} → length os ≡ 5 → n ≡ field 1 4 os → RecordRead os (head.Answer n) (ofKind 6 (drop 1 os))
-  answered l e = record { is = rw (e, of-length os 4 (Answer (field 0 4 (drop 1 os))) l); whole = refl; within = omega arith; small = omega arith }
+  pub answered : {n : ℕ} → length os ≡ recordLength 6 → n ≡ field 1 4 os → RecordRead os (head.Answer n) (ofKind 6 (drop 1 os))
+  answered l e = record { is = rw (e, of-length os 6 (Answer (field 0 4 (drop 1 os))) l); whole = refl; within = omega arith; small = omega arith }
 
--- ---- a record of n octets whose reference r is judged by v
-pub record Referenced (n : ℕ) (os : List ℕ) (r : ℕ) (v : Bool) : Type 0 where
-  pub long : length os ≡ n
+-- ---- a record as long as kind k has it, whose reference r is judged by v
+pub record Referenced (k : ℕ) (os : List ℕ) (r : ℕ) (v : Bool) : Type 0 where
+  pub long : length os ≡ recordLength k
   pub value : r ≡ field 1 2 os
   pub judged : v ≡ validReference r
 
-module _ {n : ℕ} {os : List ℕ} {r : ℕ} {v : Bool} (k : Referenced n os r v) where
+module _ {kind : ℕ} {os : List ℕ} {r : ℕ} {v : Bool} (k : Referenced kind os r v) where
   wrong : not v ≡ true → validReference r ≡ false
   wrong t = sym (k .judged) ∙ not-true _ t
 
@@ -150,11 +130,11 @@ unlisted : Refused (Malformed FieldOutOfRange)
 unlisted = record { is = refl }
 
 -- ---- Progress
-progress-is : {os : List ℕ} {r : ℕ} {v : Bool} → Referenced 4 os r v → ofKind 2 (drop 1 os) ≡ ranged (progressBody r (getD os 3 0))
+progress-is : {os : List ℕ} {r : ℕ} {v : Bool} → Referenced 2 os r v → ofKind 2 (drop 1 os) ≡ ranged (progressBody r (getD os 3 0))
 progress-is {os = []} k = absurd (omega (arith, k .long))
-progress-is {os = o ∷ b} k = of-length (o ∷ b) 3 (progressBody (field 0 2 b) (getD b 2 0)) (k .long) ∙ rw (k .value)
+progress-is {os = o ∷ b} k = of-length (o ∷ b) 2 (progressBody (field 0 2 b) (getD b 2 0)) (k .long) ∙ rw (k .value)
 
-module _ {os : List ℕ} {r : ℕ} {v : Bool} (k : Referenced 4 os r v) where
+module _ {os : List ℕ} {r : ℕ} {v : Bool} (k : Referenced 2 os r v) where
   pub progress-reference : not v ≡ true → RecordRead os (head.Malformed FieldOutOfRange) (ofKind 2 (drop 1 os))
   progress-reference t =
       let p : (s : CallState) → Refused (Progress r s) = λ s. record { is = rw (wrong k t) } in
@@ -174,11 +154,11 @@ module _ {os : List ℕ} {r : ℕ} {v : Bool} (k : Referenced 4 os r v) where
     progress-unlisted i = malformed (progress-is k ∙ rw (ne-eqb (getD os 3 0) 4 h, ne-eqb (getD os 3 0) 10 i))
 
 -- ---- Hold
-hold-is : {os : List ℕ} {r : ℕ} {v : Bool} → Referenced 4 os r v → ofKind 3 (drop 1 os) ≡ ranged (holdBody r (getD os 3 0))
+hold-is : {os : List ℕ} {r : ℕ} {v : Bool} → Referenced 3 os r v → ofKind 3 (drop 1 os) ≡ ranged (holdBody r (getD os 3 0))
 hold-is {os = []} k = absurd (omega (arith, k .long))
 hold-is {os = o ∷ b} k = of-length (o ∷ b) 3 (holdBody (field 0 2 b) (getD b 2 0)) (k .long) ∙ rw (k .value)
 
-module _ {os : List ℕ} {r : ℕ} {v : Bool} (k : Referenced 4 os r v) where
+module _ {os : List ℕ} {r : ℕ} {v : Bool} (k : Referenced 3 os r v) where
   pub hold-reference : not v ≡ true → RecordRead os (head.Malformed FieldOutOfRange) (ofKind 3 (drop 1 os))
   hold-reference t =
       let a = getD os 3 0 in
@@ -208,11 +188,11 @@ module _ {os : List ℕ} {r : ℕ} {v : Bool} (k : Referenced 4 os r v) where
         hold-unlisted h3 = malformed (hold-is k ∙ rw (ne-eqb (getD os 3 0) 0 h0, ne-eqb (getD os 3 0) 1 h1, ne-eqb (getD os 3 0) 2 h2, ne-eqb (getD os 3 0) 3 h3))
 
 -- ---- Facility
-facility-is : {os : List ℕ} {r : ℕ} {v : Bool} → Referenced 36 os r v → ofKind 5 (drop 1 os) ≡ ranged (facilityBody r (getD os 3 0) (drop 4 os))
+facility-is : {os : List ℕ} {r : ℕ} {v : Bool} → Referenced 5 os r v → ofKind 5 (drop 1 os) ≡ ranged (facilityBody r (getD os 3 0) (drop 4 os))
 facility-is {os = []} k = absurd (omega (arith, k .long))
-facility-is {os = o ∷ b} k = of-length (o ∷ b) 35 (facilityBody (field 0 2 b) (getD b 2 0) (drop 3 b)) (k .long) ∙ rw (k .value)
+facility-is {os = o ∷ b} k = of-length (o ∷ b) 5 (facilityBody (field 0 2 b) (getD b 2 0) (drop 3 b)) (k .long) ∙ rw (k .value)
 
-module _ {os : List ℕ} {r : ℕ} {v : Bool} (k : Referenced 36 os r v) where
+module _ {os : List ℕ} {r : ℕ} {v : Bool} (k : Referenced 5 os r v) where
   pub facility-reference : not v ≡ true → RecordRead os (head.Malformed FieldOutOfRange) (ofKind 5 (drop 1 os))
   facility-reference t =
       let n = getD os 3 0 in
@@ -238,7 +218,7 @@ module _ {os : List ℕ} {r : ℕ} {v : Bool} (k : Referenced 36 os r v) where
 
       pub facility : not v ≡ false → not w ≡ false → RecordRead os (head.Facility (record { 0 = r }) (getD os 3 0)) (ofKind 5 (drop 1 os))
       facility t u =
-          let l : length os ≡ 36 = k .long in
+          let l : length os ≡ recordLength 5 = k .long in
           record {
             is = sym (facility-is k ∙ rw (le-leb 1 (getD os 3 0) h1, le-leb (getD os 3 0) 32 h2, filled (not-false _ u), right k t));
             whole = refl;
@@ -247,12 +227,12 @@ module _ {os : List ℕ} {r : ℕ} {v : Bool} (k : Referenced 36 os r v) where
           }
 
 -- ---- Open
-open-is : {os : List ℕ} {r : ℕ} {v : Bool} → Referenced 25 os r v
+open-is : {os : List ℕ} {r : ℕ} {v : Bool} → Referenced 1 os r v
     → ofKind 1 (drop 1 os) ≡ ranged (cond (leb (getD os 7 0) 1) (Open r (field 3 4 os) (directionOf (getD os 7 0)) (record { presentation = getD os 8 0; count = getD os 9 0; digits = drop 10 os })) (Malformed FieldOutOfRange))
 open-is {os = []} k = absurd (omega (arith, k .long))
-open-is {os = o ∷ b} k = of-length (o ∷ b) 24 (openBody b) (k .long) ∙ rw (k .value)
+open-is {os = o ∷ b} k = of-length (o ∷ b) 1 (openBody b) (k .long) ∙ rw (k .value)
 
-module _ {os : List ℕ} {r : ℕ} {v : Bool} (k : Referenced 25 os r v) where
+module _ {os : List ℕ} {r : ℕ} {v : Bool} (k : Referenced 1 os r v) where
   pub open-reference : not v ≡ true → RecordRead os (head.Malformed FieldOutOfRange) (ofKind 1 (drop 1 os))
   open-reference t =
       let p : Refused (Open r (field 3 4 os) (directionOf (getD os 7 0)) (record { presentation = getD os 8 0; count = getD os 9 0; digits = drop 10 os })) = record { is = rw (wrong k t) } in
@@ -293,19 +273,87 @@ unfolding request
 of-kind [] k h e f = absurd (h refl)
 of-kind (o ∷ b) k h e f = rw (← e) at f
 
-pub unknown-kind : (os : List ℕ) → (length os ≡ 0 → ⊥)
-    → (getD os 0 0 ≡ 1 → ⊥) → (getD os 0 0 ≡ 2 → ⊥) → (getD os 0 0 ≡ 3 → ⊥) → (getD os 0 0 ≡ 4 → ⊥) → (getD os 0 0 ≡ 5 → ⊥) → (getD os 0 0 ≡ 6 → ⊥)
-    → RecordRead os (head.Malformed UnknownKind) (request os)
+-- a kind is one of those listed, or has no body
+data Kind : ℕ → Type 0 where
+  is-open : Kind 1
+  is-progress : Kind 2
+  is-hold : Kind 3
+  is-release : Kind 4
+  is-facility : Kind 5
+  is-answer : Kind 6
+  not-listed : {k : ℕ} → bodyLength k ≡ 0 → ((b : List ℕ) → ofKind k b ≡ Malformed UnknownKind) → Kind k
+
+beyond : (k : ℕ) → 6 < k → Kind k
+beyond k h =
+    let t = ne-eqb k 1 (λ (e : k ≡ 1). omega (arith, h, e)) in
+    let u = ne-eqb k 2 (λ (e : k ≡ 2). omega (arith, h, e)) in
+    let v = ne-eqb k 3 (λ (e : k ≡ 3). omega (arith, h, e)) in
+    let w = ne-eqb k 4 (λ (e : k ≡ 4). omega (arith, h, e)) in
+    let x = ne-eqb k 5 (λ (e : k ≡ 5). omega (arith, h, e)) in
+    let y = ne-eqb k 6 (λ (e : k ≡ 6). omega (arith, h, e)) in
+    not-listed {k = k} (rw (t, u, v, w, x, y)) (λ b. rw (t, u, v, w, x, y))
+
+kind-of : (k : ℕ) → Kind k
+kind-of zero = not-listed refl (λ b. refl)
+kind-of (suc zero) = is-open
+kind-of (suc (suc zero)) = is-progress
+kind-of (suc (suc (suc zero))) = is-hold
+kind-of (suc (suc (suc (suc zero)))) = is-release
+kind-of (suc (suc (suc (suc (suc zero))))) = is-facility
+kind-of (suc (suc (suc (suc (suc (suc zero)))))) = is-answer
+kind-of (suc (suc (suc (suc (suc (suc (suc k))))))) = beyond (suc (suc (suc (suc (suc (suc (suc k))))))) (omega arith)
+
+without-body : {k : ℕ} → Kind k → (b : List ℕ) → recordLength k ≡ 1 → ofKind k b ≡ Malformed UnknownKind
+without-body is-open b h = absurd (omega (arith, h))
+without-body is-progress b h = absurd (omega (arith, h))
+without-body is-hold b h = absurd (omega (arith, h))
+without-body is-release b h = absurd (omega (arith, h))
+without-body is-facility b h = absurd (omega (arith, h))
+without-body is-answer b h = absurd (omega (arith, h))
+without-body (not-listed e f) b h = f b
+
+unsized : (k : ℕ) (b : List ℕ) (q : Request) → (suc (length b) ≡ recordLength k → ⊥) → sized k b q ≡ Malformed WrongLength
+unsized k b q h = rw (ne-eqb (length b) (bodyLength k) (λ (e : length b ≡ bodyLength k). h (omega (arith, e))))
+
+other-length : {k : ℕ} → Kind k → (b : List ℕ) → (recordLength k ≡ 1 → ⊥) → (suc (length b) ≡ recordLength k → ⊥) → ofKind k b ≡ Malformed WrongLength
+other-length is-open b l h = unsized 1 b (openBody b) h
+other-length is-progress b l h = unsized 2 b (progressBody (field 0 2 b) (getD b 2 0)) h
+other-length is-hold b l h = unsized 3 b (holdBody (field 0 2 b) (getD b 2 0)) h
+other-length is-release b l h = unsized 4 b (Release (field 0 4 b)) h
+other-length is-facility b l h = unsized 5 b (facilityBody (field 0 2 b) (getD b 2 0) (drop 3 b)) h
+other-length is-answer b l h = unsized 6 b (Answer (field 0 4 b)) h
+other-length (not-listed e f) b l h = absurd (l (omega (arith, e)))
+
+-- n is the length that the kind has
+pub unknown-kind : (os : List ℕ) {n : ℕ} → (length os ≡ 0 → ⊥) → n ≡ recordLength (getD os 0 0) → n ≡ 1 → RecordRead os (head.Malformed UnknownKind) (request os)
 unfolding request
-unknown-kind [] h h1 h2 h3 h4 h5 h6 = absurd (h refl)
-unknown-kind (k ∷ b) h h1 h2 h3 h4 h5 h6 = malformed (rw (ne-eqb k 1 h1, ne-eqb k 2 h2, ne-eqb k 3 h3, ne-eqb k 4 h4, ne-eqb k 5 h5, ne-eqb k 6 h6))
+unknown-kind [] s e h = absurd (s refl)
+unknown-kind (k ∷ b) s e h = malformed (without-body (kind-of k) b (sym e ∙ h))
+
+pub wrong-length : (os : List ℕ) {n : ℕ} → (length os ≡ 0 → ⊥) → n ≡ recordLength (getD os 0 0) → (n ≡ 1 → ⊥) → (length os ≡ n → ⊥) → RecordRead os (head.Malformed WrongLength) (request os)
+unfolding request
+wrong-length [] s e l h = absurd (s refl)
+wrong-length (k ∷ b) s e l h = malformed (other-length (kind-of k) b (λ (q : recordLength k ≡ 1). l (e ∙ q)) (λ (q : suc (length b) ≡ recordLength k). h (q ∙ sym e)))
+
+-- the last kind
+last-kind : {k : ℕ} → Kind k → (recordLength k ≡ 1 → ⊥) → (k ≡ 1 → ⊥) → (k ≡ 2 → ⊥) → (k ≡ 3 → ⊥) → (k ≡ 4 → ⊥) → (k ≡ 5 → ⊥) → k ≡ 6
+last-kind is-open l a b c d e = absurd (a refl)
+last-kind is-progress l a b c d e = absurd (b refl)
+last-kind is-hold l a b c d e = absurd (c refl)
+last-kind is-release l a b c d e = absurd (d refl)
+last-kind is-facility l a b c d e = absurd (e refl)
+last-kind is-answer l a b c d e = refl
+last-kind (not-listed f g) l a b c d e = absurd (l (omega (arith, f)))
+
+pub answer-kind : (k : ℕ) {n : ℕ} → n ≡ recordLength k → (n ≡ 1 → ⊥) → (k ≡ 1 → ⊥) → (k ≡ 2 → ⊥) → (k ≡ 3 → ⊥) → (k ≡ 4 → ⊥) → (k ≡ 5 → ⊥) → k ≡ 6
+answer-kind k e l = last-kind (kind-of k) (λ (q : recordLength k ≡ 1). l (e ∙ q))
 
 -- ---- what a caller takes out of a record
 module _ {os : List ℕ} {r : RequestHead} {q : Request} (f : RecordRead os r q) where
   pub said : {h : RequestHead} → r ≡ h → q ≡ requestOf h os
   said e = sym (f .is) ∙ rw e
 
-  pub open-length : {n : CallReference} {l : ℕ} {d : Direction} {p m : ℕ} → r ≡ head.Open n l d p m → length os ≡ 25
+  pub open-length : {n : CallReference} {l : ℕ} {d : Direction} {p m : ℕ} → r ≡ head.Open n l d p m → length os ≡ recordLength 1
   open-length e = sym (rw e at (f .whole))
 
   pub component-within : {n : CallReference} {m : ℕ} → r ≡ head.Facility n m → m + 4 ≤ length os
@@ -315,11 +363,11 @@ module _ {os : List ℕ} {r : RequestHead} {q : Request} (f : RecordRead os r q)
   component-small e = rw e at (f .small)
 
 -- the digits of an Open, which end the record
-pub digits-are : (os : List ℕ) → length os ≡ 25 → take 15 (drop 10 os) ≡ drop 10 os
+pub digits-are : (os : List ℕ) → length os ≡ recordLength 1 → take 15 (drop 10 os) ≡ drop 10 os
 digits-are os l = take-all 15 (drop 10 os) (omega (arith, length-drop 10 os))
 
 -- one octet copied more
-pub copied : (os ds : List ℕ) (i : ℕ) → 25 ≤ length os → length ds ≡ 15 → i < 15 → take i ds ≡ take i (drop 10 os)
+pub copied : (os ds : List ℕ) (i : ℕ) → recordLength 1 ≤ length os → length ds ≡ 15 → i < 15 → take i ds ≡ take i (drop 10 os)
     → take (i + 1) (set ds i (getD os (i + 10) 0)) ≡ take (i + 1) (drop 10 os)
 copied os ds i l m h e =
     let s : 10 + i ≡ i + 10 = omega arith in

@@ -1,6 +1,6 @@
 -- Event records: what a record asks for, or why it is no record (document 01, "Event records", and its checks 3 to 5).
 use Prim.Native.Nat.{ℕ}
-use mathlib.Core.Bool.{Bool, true, false, _&&_, cond}
+use mathlib.Core.Bool.{Bool, true, _&&_, cond}
 use mathlib.Core.List.{List, [], _∷_}
 use lib.Dec.{eqb, leb}
 use lib.ListN.{length, take, drop, getD}
@@ -16,6 +16,7 @@ use Rattle.board.specs.States.{validReference}
 use Rattle.board.specs.Soundness.{zeros, validNumber}
 use Rattle.events.specs.declared.Refusal.{Refusal}
 use Rattle.events.specs.declared.Refusal.the-variants.{WrongLength, UnknownKind, FieldOutOfRange}
+use Rattle.events.specs.Records.{bodyLength}
 
 -- what a record asks for, with the content of its body
 pub data Request : Type 0 where
@@ -78,20 +79,20 @@ ranged q = cond (inRange q) q (Malformed FieldOutOfRange)
 
 -- "3: .. not as long as its kind"
 abbrev pub sized : ℕ → List ℕ → Request → Request
-sized n b q = cond (eqb (length b) n) (ranged q) (Malformed WrongLength)
+sized k b q = cond (eqb (length b) (bodyLength k)) (ranged q) (Malformed WrongLength)
 
 -- "4: kind not listed (judged before length)"
 abbrev pub ofKind : ℕ → List ℕ → Request
 ofKind k b =
-    cond (eqb k 1) (sized 24 b (openBody b))
-    (cond (eqb k 2) (sized 3 b (progressBody (field 0 2 b) (getD b 2 0)))
+    cond (eqb k 1) (sized 1 b (openBody b))
+    (cond (eqb k 2) (sized 2 b (progressBody (field 0 2 b) (getD b 2 0)))
     (cond (eqb k 3) (sized 3 b (holdBody (field 0 2 b) (getD b 2 0)))
     (cond (eqb k 4) (sized 4 b (Release (field 0 4 b)))
-    (cond (eqb k 5) (sized 35 b (facilityBody (field 0 2 b) (getD b 2 0) (drop 3 b)))
-    (cond (eqb k 6) (sized 4 b (Answer (field 0 4 b)))
+    (cond (eqb k 5) (sized 5 b (facilityBody (field 0 2 b) (getD b 2 0) (drop 3 b)))
+    (cond (eqb k 6) (sized 6 b (Answer (field 0 4 b)))
     (Malformed UnknownKind))))))
 
--- "One octet of kind, then a body of fixed length"; "3: record empty"
+-- the kind, then the body; "3: record empty"
 unfoldable pub request : List ℕ → Request
 request [] = Malformed WrongLength
 request (k ∷ b) = ofKind k b

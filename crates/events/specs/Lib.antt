@@ -1,3 +1,4 @@
 pub mod Refusals
+pub mod Records
 pub mod EventRecords
 pub mod Code

@@ -6,10 +6,11 @@ use board::Direction;
 use octets::CallReference;
 ghost use Prim.Native.Nat.{_+_, _≤_};
 ghost use mathlib.Core.Path.{_≡_};
-ghost use lib.ListN.{length, take, drop};
+ghost use lib.ListN.{length, drop};
 ghost use Rattle.octets.specs.Lists.{all};
 ghost use Rattle.board.specs.States.{validReference};
 ghost use Rattle.board.specs.Soundness.{zeros, validDigits};
+ghost use Rattle.events.specs.Records.{recordLength};
 ghost use Rattle.events.specs.EventRecords.{field, directionOf, ofKind, request};
 ghost use Rattle.board.specs.Soundness.{isDigit};
 ghost use Rattle.events.specs.Code.RecordValues.{RecordRead};
@@ -30,6 +31,31 @@ pub enum RequestHead {
     Release(u32),
     Facility(CallReference, usize),
     Answer(u32),
+}
+
+// How many octets a record has: its kind, and the body that its kind has; of a kind that is not listed the kind alone.
+pub fn record_length(kind: u8) -> usize
+    ensures { λ r. ⌜ r ≡ recordLength kind ⌝ }
+{
+    if kind == 1 {
+        return 25;
+    }
+    if kind == 2 {
+        return 4;
+    }
+    if kind == 3 {
+        return 4;
+    }
+    if kind == 4 {
+        return 5;
+    }
+    if kind == 5 {
+        return 36;
+    }
+    if kind == 6 {
+        return 5;
+    }
+    1
 }
 
 // The number in the two octets from a place on.
@@ -113,11 +139,9 @@ fn direction_of(n: u8) -> Direction
 }
 
 fn read_open(event: &[u8]) -> RequestHead
+    requires { ⌜ length (now event) ≡ recordLength 1 ⌝ }
     ensures { λ r. ⌜ RecordRead (now (event .entry)) r (ofKind 1 (drop 1 (now (event .entry)))) ⌝ }
 {
-    if event.len() != 25 {
-        return RequestHead::Malformed(Refusal::WrongLength);
-    }
     let reference = u16_at(event, 1);
     let direction = event[7];
     let presentation = event[8];
@@ -144,11 +168,9 @@ fn read_open(event: &[u8]) -> RequestHead
 }
 
 fn read_progress(event: &[u8]) -> RequestHead
+    requires { ⌜ length (now event) ≡ recordLength 2 ⌝ }
     ensures { λ r. ⌜ RecordRead (now (event .entry)) r (ofKind 2 (drop 1 (now (event .entry)))) ⌝ }
 {
-    if event.len() != 4 {
-        return RequestHead::Malformed(Refusal::WrongLength);
-    }
     let reference = u16_at(event, 1);
     let state = event[3];
     if !valid_reference(reference) {
@@ -164,11 +186,9 @@ fn read_progress(event: &[u8]) -> RequestHead
 }
 
 fn read_hold(event: &[u8]) -> RequestHead
+    requires { ⌜ length (now event) ≡ recordLength 3 ⌝ }
     ensures { λ r. ⌜ RecordRead (now (event .entry)) r (ofKind 3 (drop 1 (now (event .entry)))) ⌝ }
 {
-    if event.len() != 4 {
-        return RequestHead::Malformed(Refusal::WrongLength);
-    }
     let reference = u16_at(event, 1);
     let auxiliary = event[3];
     if !valid_reference(reference) {
@@ -190,20 +210,16 @@ fn read_hold(event: &[u8]) -> RequestHead
 }
 
 fn read_release(event: &[u8]) -> RequestHead
+    requires { ⌜ length (now event) ≡ recordLength 4 ⌝ }
     ensures { λ r. ⌜ RecordRead (now (event .entry)) r (ofKind 4 (drop 1 (now (event .entry)))) ⌝ }
 {
-    if event.len() != 5 {
-        return RequestHead::Malformed(Refusal::WrongLength);
-    }
     RequestHead::Release(u32_at(event, 1))
 }
 
 fn read_facility(event: &[u8]) -> RequestHead
+    requires { ⌜ length (now event) ≡ recordLength 5 ⌝ }
     ensures { λ r. ⌜ RecordRead (now (event .entry)) r (ofKind 5 (drop 1 (now (event .entry)))) ⌝ }
 {
-    if event.len() != 36 {
-        return RequestHead::Malformed(Refusal::WrongLength);
-    }
     let reference = u16_at(event, 1);
     let count = event[3] as usize;
     if !valid_reference(reference) {
@@ -222,11 +238,9 @@ fn read_facility(event: &[u8]) -> RequestHead
 }
 
 fn read_answer(event: &[u8]) -> RequestHead
+    requires { ⌜ length (now event) ≡ recordLength 6 ⌝ }
     ensures { λ r. ⌜ RecordRead (now (event .entry)) r (ofKind 6 (drop 1 (now (event .entry)))) ⌝ }
 {
-    if event.len() != 5 {
-        return RequestHead::Malformed(Refusal::WrongLength);
-    }
     RequestHead::Answer(u32_at(event, 1))
 }
 
@@ -238,6 +252,13 @@ pub fn read_request(event: &[u8]) -> RequestHead
         return RequestHead::Malformed(Refusal::WrongLength);
     }
     let kind = event[0];
+    let length = record_length(kind);
+    if length == 1 {
+        return RequestHead::Malformed(Refusal::UnknownKind); // Every kind that is listed has a body.
+    }
+    if event.len() != length {
+        return RequestHead::Malformed(Refusal::WrongLength);
+    }
     if kind == 1 {
         return read_open(event);
     }
@@ -253,8 +274,5 @@ pub fn read_request(event: &[u8]) -> RequestHead
     if kind == 5 {
         return read_facility(event);
     }
-    if kind == 6 {
-        return read_answer(event);
-    }
-    RequestHead::Malformed(Refusal::UnknownKind)
+    read_answer(event)
 }

@@ -8,10 +8,10 @@ use lib.Dec.{eqb, leb, ltb}
 use lib.ListN.{length, drop, getD, length-append, length-drop}
 use borrow.Author.Tests.{leb-true}
 use Rattle.board.specs.declared.Board.{Board}
+use Rattle.events.specs.Records.{recordLength}
 use Rattle.rules.specs.Replies.{DropOrder}
 use Rattle.playing.specs.declared.Pause.the-variants.{MoreInput, FullOutput, End}
 use Rattle.playing.specs.declared.Played.{Played}
-use Rattle.playing.specs.Records.{recordLength}
 use Rattle.playing.specs.Log.{ordersLater, judged, stopsReading, largestNumber}
 use Rattle.playing.specs.Playing.{frontLength, pieceRecord, pieceLine, longestLine, Playing, pausing, withRecord, playFrom, playing, Plays}
 

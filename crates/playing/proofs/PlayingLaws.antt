@@ -8,6 +8,7 @@ use mathlib.Core.Path.{_≡_, _∙_, ap, refl, sym}
 use mathlib.Core.List.{List, [], _∷_}
 use lib.ListN.{length, getD, take, drop, length-append, length-drop}
 use Rattle.board.specs.declared.Board.{Board}
+use Rattle.events.specs.Records.{recordLength}
 use Rattle.rules.specs.Replies.{DropOrder, octets}
 use Rattle.rules.specs.Step.{Outcome}
 use Rattle.ect.proofs.CallHistory.{replies-are}
@@ -17,7 +18,6 @@ use Rattle.log_text.proofs.TextLaws.{line-short}
 use Rattle.log_text.specs.Lines.{recordLine}
 use Rattle.log_text.specs.Writing.{Fitted}
 use Rattle.playing.specs.declared.Pause.the-variants.{MoreInput, FullOutput, End}
-use Rattle.playing.specs.Records.{recordLength}
 use Rattle.playing.specs.Log.{outcomeLine, ordersLater, judged, stopsReading, largestNumber}
 use Rattle.playing.specs.Playing.{frontLength, pieceRecord, pieceLine, longestLine, pauseAtEnd, Playing, pausing, withRecord, playFrom, playing, TellsOf}
 
@@ -58,8 +58,6 @@ module _ (last : Bool) (piece : List ℕ) (n : ℕ) (e : n ≡ recordLength (get
 
   pub front-later : length piece < n → last ≡ false → 0 ≡ frontLength last piece
   front-later h t = rw (sym e, lt-leb n (length piece) h, t)
-
--- ---- the count of `playFrom` does not matter where it is large enough
 
 -- ---- one record of a piece, with what comes behind it
 

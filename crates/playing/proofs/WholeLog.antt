@@ -1,73 +1,36 @@
 -- Pieces of a log, of any size, give the text of the whole log: of whatever `play` returns by its contract. Assumes nothing.
 use Prim.{tt}
-use Prim.Native.Nat.{ℕ, zero, suc, _+_, _-_, _≤_, _<_}
+use Prim.Native.Nat.{ℕ, zero, suc, _+_, _-_, _≤_}
 use native.Mathlib.Omega.{arith}
 use borrow.Author.Tests.{leb-true, leb-false, eqb-false}
 use mathlib.Core.Bool.{Bool, true, false, cond}
 use mathlib.Core.Path.{_≡_, _∙_, ap, refl, sym}
 use mathlib.Core.List.{List, [], _∷_, _++_, append-nil, append-assoc}
 use lib.Dec.{eqb, leb, ltb}
-use lib.ListN.{length, take, drop, length-drop, drop-of-length-le}
+use lib.ListN.{length, take, drop, drop-of-length-le}
 use lib.Seq.{drop-drop, take-all, take-length, drop-length, take-append-le, drop-append-le, take-at}
 use base.Fml.{GName}
 use contract.Lifetimes.{Lfts}
 use Rattle.board.specs.declared.Board.{Board}
+use Rattle.events.specs.Records.{recordLength, frontRecord, behind, records}
+use Rattle.events.proofs.LogRecords.{no-records, first-record}
 use Rattle.rules.specs.Replies.{DropOrder}
 use Rattle.playing.specs.declared.Pause.{Pause}
 use Rattle.playing.specs.declared.Pause.the-variants.{MoreInput, FullOutput, End}
 use Rattle.playing.specs.declared.Played.{Played}
-use Rattle.playing.specs.Records.{recordLength}
-use Rattle.playing.specs.Log.{outcomeLine, orderNow, ordersLater, judged, frontRecord, behind, stopsReading, largestNumber, LogEnd, ended, withText, logFrom, logEnd}
+use Rattle.playing.specs.Log.{orderNow, ordersLater, judged, stopsReading, largestNumber, LogEnd, ended, withText, recordsEnd, logEnd}
 use Rattle.playing.specs.Playing.{frontLength, pieceRecord, pieceLine, longestLine, pauseAtEnd, Playing, pausing, withRecord, playFrom, playing}
 use Rattle.ect.proofs.CallHistory.{lent}
 use Rattle.playing.proofs.PlayingLaws.{some-taken}
 use Rattle.playing.proofs.play.Reads as play-contract
 
--- ---- the count of `logFrom` does not matter where it is large enough
+-- ---- a log, record by record
 
--- every record has its kind
-some-octet : (a b c d e f : Bool) → 0 < cond a 25 (cond b 4 (cond c 4 (cond d 5 (cond e 36 (cond f 5 1)))))
-some-octet true b c d e f = omega arith
-some-octet false true c d e f = omega arith
-some-octet false false true d e f = omega arith
-some-octet false false false true e f = omega arith
-some-octet false false false false true f = omega arith
-some-octet false false false false false true = omega arith
-some-octet false false false false false false = omega arith
-
-record-some : (k : ℕ) → 0 < recordLength k
-record-some k = some-octet (eqb k 1) (eqb k 2) (eqb k 3) (eqb k 4) (eqb k 5) (eqb k 6)
-
-shorter : (o : ℕ) (os : List ℕ) → length (behind (o ∷ os)) ≤ length os
-shorter o os = omega (arith, record-some o, length-drop (recordLength o) (o ∷ os))
-
--- one record of a log, with what comes behind it
-abbrev oneRecord : List DropOrder → Board → ℕ → List ℕ → LogEnd → LogEnd
-oneRecord orders b n log next =
-    cond (leb largestNumber n) (ended b n)
-    (withText (outcomeLine (n + 1) (frontRecord log) (judged orders b (frontRecord log)))
-    (cond (stopsReading (judged orders b (frontRecord log) .returned)) (ended (judged orders b (frontRecord log) .board) (n + 1)) next))
-
-enough : (k j : ℕ) (orders : List DropOrder) (b : Board) (n : ℕ) (log : List ℕ) → length log ≤ k → length log ≤ j → logFrom k orders b n log ≡ logFrom j orders b n log
-unfolding logFrom
-enough zero zero orders b n log h g = refl
-enough zero (suc j) orders b n [] h g = refl
-enough zero (suc j) orders b n (o ∷ os) h g = absurd (omega (arith, h))
-enough (suc k) zero orders b n [] h g = refl
-enough (suc k) zero orders b n (o ∷ os) h g = absurd (omega (arith, g))
-enough (suc k) (suc j) orders b n [] h g = refl
-enough (suc k) (suc j) orders b n (o ∷ os) h g =
-    ap (oneRecord orders b n (o ∷ os))
-    (enough k j (ordersLater orders) (judged orders b (frontRecord (o ∷ os)) .board) (n + 1) (behind (o ∷ os)) (omega (arith, h, shorter o os)) (omega (arith, g, shorter o os)))
-
-log-record : (orders : List DropOrder) (b : Board) (n o : ℕ) (os : List ℕ) →
-    logEnd orders b n (o ∷ os) ≡ oneRecord orders b n (o ∷ os) (logEnd (ordersLater orders) (judged orders b (frontRecord (o ∷ os)) .board) (n + 1) (behind (o ∷ os)))
-unfolding logFrom
-log-record orders b n o os =
-    ap (oneRecord orders b n (o ∷ os))
-    (enough (length os) (length (behind (o ∷ os))) (ordersLater orders) (judged orders b (frontRecord (o ∷ os)) .board) (n + 1) (behind (o ∷ os)) (shorter o os) (omega arith))
+log-record : (orders : List DropOrder) (b : Board) (n o : ℕ) (os : List ℕ) → logEnd orders b n (o ∷ os) ≡ recordsEnd orders b n (frontRecord (o ∷ os) ∷ records (behind (o ∷ os)))
+log-record orders b n o os = ap (recordsEnd orders b n) (first-record o os)
 
 log-most : (orders : List DropOrder) (b : Board) (n o : ℕ) (os : List ℕ) → leb largestNumber n ≡ true → logEnd orders b n (o ∷ os) ≡ ended b n
+unfolding recordsEnd
 log-most orders b n o os e = log-record orders b n o os ∙ rw e
 
 two-texts : (x y : List ℕ) (e : LogEnd) → withText x (withText y e) ≡ withText (x ++ y) e
@@ -121,8 +84,8 @@ LeadsOn p b n piece later =
     × ((os : List DropOrder) → logEnd (orders ++ os) b n (piece ++ later) ≡ withText (p .text) (afterPause (p .pause) os (p .board) (p .number) (drop (p .read) piece ++ later)))
 
 at-end : (last : Bool) (b : Board) (n : ℕ) (later : List ℕ) → Later last later → LeadsOn (pausing b n (pauseAtEnd last)) b n [] later
-unfolding logFrom
-at-end true b n later z = ([], λ os. ap (logEnd os b n) (z refl))
+unfolding recordsEnd
+at-end true b n later z = ([], λ os. ap (logEnd os b n) (z refl) ∙ ap (recordsEnd os b n) no-records)
 at-end false b n later z = ([], λ os. refl)
 
 module _ (orders : List DropOrder) (b : Board) (n o : ℕ) (os later : List ℕ) (last : Bool) (z : Later last later) (some : eqb (frontLength last (o ∷ os)) 0 ≡ false) where
@@ -136,6 +99,7 @@ module _ (orders : List DropOrder) (b : Board) (n o : ℕ) (os later : List ℕ)
   in-front : (ds : List DropOrder) → leb largestNumber n ≡ false →
       logEnd (orderNow orders ∷ ds) b n (o ∷ (os ++ later))
       ≡ withText line (cond (stopsReading (judged orders b (pieceRecord last (o ∷ os)) .returned)) (ended after (n + 1)) (logEnd ds after (n + 1) (drop (frontLength last (o ∷ os)) (o ∷ os) ++ later)))
+  unfolding recordsEnd
   in-front ds e =
       log-record (orderNow orders ∷ ds) b n o (os ++ later)
       ∙ rw (e, sym (front-record last o os later z some), sym (front-behind last o os later z some))

@@ -1,4 +1,3 @@
 -- What a log leads to, and what playing a piece of it does.
-pub mod Records
 pub mod Log
 pub mod Playing

@@ -1,14 +1,14 @@
 -- What a log leads to (document 01, "Situations": the program), from its first record on.
-use Prim.Native.Nat.{ℕ, zero, suc, _+_}
+use Prim.Native.Nat.{ℕ, _+_}
 use mathlib.Core.Bool.{Bool, cond, _||_}
 use mathlib.Core.List.{List, [], _∷_, _++_}
 use lib.Dec.{eqb, leb}
-use lib.ListN.{length, take, drop, getD}
+use lib.ListN.{getD}
 use Rattle.board.specs.declared.Board.{Board}
+use Rattle.events.specs.Records.{records}
 use Rattle.rules.specs.Replies.{DropOrder, NamedFirst, octets}
 use Rattle.rules.specs.Step.{Outcome, step}
 use Rattle.log_text.specs.Lines.{recordLine}
-use Rattle.playing.specs.Records.{recordLength}
 
 -- "per record `number kind returned octets`", of what the rules decide
 abbrev pub outcomeLine : ℕ → List ℕ → Outcome → List ℕ
@@ -26,13 +26,6 @@ ordersLater (o ∷ os) = os
 -- a record on a board, with a reply buffer of 128 octets
 abbrev pub judged : List DropOrder → Board → List ℕ → Outcome
 judged orders b event = step (orderNow orders) b event 128
-
--- the record in front of a log: as long as its kind, or cut where the log ends
-abbrev pub frontRecord : List ℕ → List ℕ
-frontRecord log = take (recordLength (getD log 0 0)) log
-
-abbrev pub behind : List ℕ → List ℕ
-behind log = drop (recordLength (getD log 0 0)) log
 
 -- "an unknown kind or cut record gets its line (returned 4 or 3) and stops reading"
 abbrev pub stopsReading : ℕ → Bool
@@ -55,17 +48,15 @@ ended b n = record { text = []; board = b; number = n }
 abbrev pub withText : List ℕ → LogEnd → LogEnd
 withText text e = record { text = text ++ e .text; board = e .board; number = e .number }
 
--- on the board b, with n records before, at most so many records
-unfoldable pub logFrom : ℕ → List DropOrder → Board → ℕ → List ℕ → LogEnd
-logFrom zero orders b n log = ended b n
-logFrom (suc k) orders b n [] = ended b n
-logFrom (suc k) orders b n (o ∷ os) =
+-- what records lead to on the board b, with n records before
+unfoldable pub recordsEnd : List DropOrder → Board → ℕ → List (List ℕ) → LogEnd
+recordsEnd orders b n [] = ended b n
+recordsEnd orders b n (event ∷ later) =
     cond (leb largestNumber n) (ended b n)
-    (withText (outcomeLine (n + 1) (frontRecord (o ∷ os)) (judged orders b (frontRecord (o ∷ os))))
-    (cond (stopsReading (judged orders b (frontRecord (o ∷ os)) .returned))
-    (ended (judged orders b (frontRecord (o ∷ os)) .board) (n + 1))
-    (logFrom k (ordersLater orders) (judged orders b (frontRecord (o ∷ os)) .board) (n + 1) (behind (o ∷ os)))))
+    (withText (outcomeLine (n + 1) event (judged orders b event))
+    (cond (stopsReading (judged orders b event .returned))
+    (ended (judged orders b event .board) (n + 1))
+    (recordsEnd (ordersLater orders) (judged orders b event .board) (n + 1) later)))
 
--- a log has no more records than octets
 abbrev pub logEnd : List DropOrder → Board → ℕ → List ℕ → LogEnd
-logEnd orders b n log = logFrom (length log) orders b n log
+logEnd orders b n log = recordsEnd orders b n (records log)

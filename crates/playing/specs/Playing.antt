@@ -6,6 +6,7 @@ use mathlib.Core.List.{List, [], _∷_, _++_}
 use lib.Dec.{eqb, leb, ltb}
 use lib.ListN.{length, take, drop, getD}
 use Rattle.board.specs.declared.Board.{Board}
+use Rattle.events.specs.Records.{recordLength}
 use Rattle.rules.specs.Replies.{DropOrder}
 use Rattle.rules.specs.Step.{Outcome, stepTested}
 use Rattle.octets.specs.Buffers.{frontWritten}
@@ -14,7 +15,6 @@ use Rattle.playing.specs.declared.Told.{Told}
 use Rattle.playing.specs.declared.Pause.{Pause}
 use Rattle.playing.specs.declared.Pause.the-variants.{MoreInput, FullOutput, End}
 use Rattle.playing.specs.declared.Played.{Played}
-use Rattle.playing.specs.Records.{recordLength}
 use Rattle.playing.specs.Log.{outcomeLine, ordersLater, judged, stopsReading, largestNumber}
 
 -- ---- a piece

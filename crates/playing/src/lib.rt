@@ -3,7 +3,7 @@ mod records;
 
 use board::Board;
 use ect::step_tested;
-use records::record_length;
+use events::records::record_length;
 use records::returned;
 use records::written;
 use soundness::sound;

@@ -20,6 +20,7 @@ use Rattle.rules.proofs.Rows.{full-is, candidate-same, after-perm, rows
 use Rattle.rules.specs.Book.{Book, bookRules, bookAfter, candidateMoves, entriesAfter, bookDecision, freshBook, emptyBook, bookStep}
 use Rattle.rules.specs.Checks.{BoardChange, decide, Decision, returnedBy, changeOf, Refuse}
 use Rattle.events.specs.Refusals.{refusalNumber}
+use Rattle.events.specs.Records.{bodyLength}
 use Rattle.events.specs.EventRecords.{request, ranged, Request, inRange, Malformed, sized, openBody, progressBody, field, holdBody, Release, facilityBody, Answer}
 use Rattle.rules.specs.History.{returns, Event, stepped, boardAt, bookAt, bookReturns}
 use Rattle.rules.specs.Replies.{octets}
@@ -41,8 +42,8 @@ ranged-in q = go (inRange q) refl
 pub data In : Request → Type 0 where
   is-in : {q : Request} → inRange q ≡ true → In q
 
-sized-in : (n : ℕ) (b : List ℕ) (q : Request) → In (sized n b q)
-sized-in n b q = is-in (go (eqb (length b) n))
+sized-in : (k : ℕ) (b : List ℕ) (q : Request) → In (sized k b q)
+sized-in k b q = is-in (go (eqb (length b) (bodyLength k)))
   where
     go : (x : Bool) → inRange (cond x (ranged q) (Malformed refusal.WrongLength)) ≡ true
     go true = ranged-in q
@@ -59,12 +60,12 @@ request-In : (os : List ℕ) → In (request os)
 unfolding request
 request-In [] = is-in refl
 request-In (k ∷ b) =
-    either-in (eqb k 1) (sized-in 24 b (openBody b))
-    (either-in (eqb k 2) (sized-in 3 b (progressBody (field 0 2 b) (getD b 2 0)))
+    either-in (eqb k 1) (sized-in 1 b (openBody b))
+    (either-in (eqb k 2) (sized-in 2 b (progressBody (field 0 2 b) (getD b 2 0)))
     (either-in (eqb k 3) (sized-in 3 b (holdBody (field 0 2 b) (getD b 2 0)))
     (either-in (eqb k 4) (sized-in 4 b (Release (field 0 4 b)))
-    (either-in (eqb k 5) (sized-in 35 b (facilityBody (field 0 2 b) (getD b 2 0) (drop 3 b)))
-    (either-in (eqb k 6) (sized-in 4 b (Answer (field 0 4 b))) (is-in refl))))))
+    (either-in (eqb k 5) (sized-in 5 b (facilityBody (field 0 2 b) (getD b 2 0) (drop 3 b)))
+    (either-in (eqb k 6) (sized-in 6 b (Answer (field 0 4 b))) (is-in refl))))))
 
 pub request-in : (os : List ℕ) → inRange (request os) ≡ true
 request-in os = in-is (request-In os)

@@ -5,6 +5,7 @@ use mathlib.Core.List.{List}
 use lib.ListN.{length, take, drop}
 use Rattle.events.specs.declared.records.RequestHead.{RequestHead}
 use Rattle.events.specs.declared.records.RequestHead.the-variants as head
+use Rattle.events.specs.Records.{recordLength}
 use Rattle.events.specs.EventRecords.{Request, Malformed, Open, Progress, Hold, Release, Facility, Answer}
 
 -- what r asks for, with the digits and the component that lie in the record os
@@ -20,7 +21,7 @@ requestOf (head.Answer l) os = Answer l
 -- the length of an Open; `other` where it is none
 abbrev pub openLength : RequestHead → ℕ → ℕ
 openLength (head.Malformed c) other = other
-openLength (head.Open r l d p n) other = 25
+openLength (head.Open r l d p n) other = recordLength 1
 openLength (head.Progress r s) other = other
 openLength (head.Hold r a) other = other
 openLength (head.Release l) other = other

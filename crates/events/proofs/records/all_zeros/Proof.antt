@@ -1,4 +1,4 @@
--- `ect::records::all_zeros` meets its contract. The invariant: the octets from `i` on decide. Assumes nothing.
+-- `events::records::all_zeros` meets its contract. The invariant: the octets from `i` on decide. Assumes nothing.
 use Prim.Native.Nat.{_≤_, _-_}
 use native.Mathlib.Omega.{arith}
 use mathlib.Core.Path.{_≡_, refl, _∙_}

@@ -1,4 +1,4 @@
--- `ect::records::direction_of` meets its contract. Assumes nothing.
+-- `events::records::direction_of` meets its contract. Assumes nothing.
 use borrow.Author.Tests.{eq-eqb, ne-eqb}
 use Rattle.events.proofs.records.direction_of.Statement.{statement}
 use Rattle.events.proofs.records.direction_of.Tie as tie

@@ -1,4 +1,4 @@
--- `ect::records::u16_at` meets its contract. Assumes nothing.
+-- `events::records::u16_at` meets its contract. Assumes nothing.
 use Prim.Native.Nat.{_+_}
 use native.Mathlib.Omega.{arith}
 use borrow.Author.Needs.{needs}

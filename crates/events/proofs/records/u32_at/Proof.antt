@@ -1,4 +1,4 @@
--- `ect::records::u32_at` meets its contract. Assumes nothing.
+-- `events::records::u32_at` meets its contract. Assumes nothing.
 use borrow.Author.Needs.{needs}
 use Rattle.events.proofs.RecordLaws.{four-at}
 use Rattle.events.proofs.records.u32_at.Statement.{statement}

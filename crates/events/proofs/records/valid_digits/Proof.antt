@@ -1,4 +1,4 @@
--- `ect::records::valid_digits` meets its contract. Assumes nothing.
+-- `events::records::valid_digits` meets its contract. Assumes nothing.
 use native.Mathlib.Omega.{arith}
 use mathlib.Core.Path.{sym}
 use lib.Seq.{length-take-le}

@@ -1,4 +1,4 @@
--- `ect::records::valid_reference` meets its contract. Assumes nothing.
+-- `events::records::valid_reference` meets its contract. Assumes nothing.
 use mathlib.Core.Path.{refl}
 use Rattle.events.proofs.records.valid_reference.Statement.{statement}
 use Rattle.events.proofs.records.valid_reference.Tie as tie

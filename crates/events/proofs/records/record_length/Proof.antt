@@ -1,7 +1,7 @@
--- `playing::records::record_length` meets its contract. Assumes nothing.
+-- `events::records::record_length` meets its contract. Assumes nothing.
 use borrow.Author.Tests.{eq-eqb, ne-eqb}
-use Rattle.playing.proofs.records.record_length.Statement.{statement}
-use Rattle.playing.proofs.records.record_length.Tie as tie
+use Rattle.events.proofs.records.record_length.Statement.{statement}
+use Rattle.events.proofs.records.record_length.Tie as tie
 
 returns : tie.Need-returns
 returns c = simp (eq-eqb _ _ (c .if1 .taken))
