@@ -10,7 +10,7 @@ use board::FoundParty;
 use events::Refusal;
 use octets::CallReference;
 use replies::nothing;
-use row_tests::is_holdable;
+use row_soundness::is_holdable;
 ghost use mathlib.Core.Path.{_≡_};
 ghost use Rattle.rules.specs.Checks.{mayProgress, mayHold, decideProgress, decideHold};
 ghost use Rattle.effects.specs.Code.Effects.{EffectAnywhere, partyFound};

@@ -368,7 +368,6 @@ module _ {B : Type 0} where
   consOpt-later none m = m
   consOpt-later (some z) m = List·Memᴰ·tail m
 
-
 module _ {A B : Type 0} where
   pub pick-mem : (f : A → Option B) (l : List A) {y : B} → List·Memᴰ y (pick f l) → (x : A) × List·Memᴰ x l × (f x ≡ some y)
   pick-mem f [] m = elim m [ ]

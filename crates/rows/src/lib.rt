@@ -11,10 +11,10 @@ use board::MOST_LINK_IDS;
 use board::Row;
 use board::finding::is_call_of;
 use octets::CallReference;
-use row_tests::row_fits;
-use row_tests::row_tally;
-use row_tests::rows_clash;
-use row_tests::rows_paired;
+use row_soundness::row_fits;
+use row_soundness::row_tally;
+use row_soundness::rows_clash;
+use row_soundness::rows_paired;
 
 // What is found once the row at that place is read: the first place found stays.
 fn lookup_step(found: Found, row: Row, reference: CallReference, place: usize) -> Found

@@ -25,7 +25,7 @@ use Rattle.board.specs.declared.Entry.{Entry}
 use Rattle.board.specs.declared.Connection.the-variants.{WithPartner}
 use Rattle.board.specs.Entries.{entry, entryOf, rowEntry, taken, occupied, linkIdIn}
 use Rattle.board.specs.Soundness.{answersTo, partnered}
-use Rattle.row_tests.specs.Code.RowKeys.{linkNumber, callKey, keyOf, joinedEntry}
+use Rattle.row_soundness.specs.Code.RowKeys.{linkNumber, callKey, keyOf, joinedEntry}
 use Rattle.soundness.specs.Code.Columns.{legIn, referenceIn, linkIn, ownIn, partnerIn, alertingIn, joinedEntries}
 use Rattle.octets.specs.Tests.{bindOption}
 
@@ -209,42 +209,42 @@ repeated {ns} {i} s t = sym (distinct-drop i ns (sym (distinct-yes s eqb refl t)
 
 -- ---- three columns as entries
 
-joinedEntries-short : (ns ms : List ℕ) → joinedEntries ns [] ms ≡ []
+joined-entries-short : (ns ms : List ℕ) → joinedEntries ns [] ms ≡ []
 unfolding joinedEntries
-joinedEntries-short [] ms = refl
-joinedEntries-short (n ∷ ns) ms = refl
+joined-entries-short [] ms = refl
+joined-entries-short (n ∷ ns) ms = refl
 
-joinedEntries-shorter : (ns ps : List ℕ) → joinedEntries ns ps [] ≡ []
+joined-entries-shorter : (ns ps : List ℕ) → joinedEntries ns ps [] ≡ []
 unfolding joinedEntries
-joinedEntries-shorter [] ps = refl
-joinedEntries-shorter (n ∷ ns) [] = refl
-joinedEntries-shorter (n ∷ ns) (p ∷ ps) = refl
+joined-entries-shorter [] ps = refl
+joined-entries-shorter (n ∷ ns) [] = refl
+joined-entries-shorter (n ∷ ns) (p ∷ ps) = refl
 
-drop-joinedEntries : (i : ℕ) (ns ps bs : List ℕ) → drop i (joinedEntries ns ps bs) ≡ joinedEntries (drop i ns) (drop i ps) (drop i bs)
+drop-joined-entries : (i : ℕ) (ns ps bs : List ℕ) → drop i (joinedEntries ns ps bs) ≡ joinedEntries (drop i ns) (drop i ps) (drop i bs)
 unfolding joinedEntries
-drop-joinedEntries zero ns ps bs = refl
-drop-joinedEntries (suc i) [] ps bs = refl
-drop-joinedEntries (suc i) (n ∷ ns) [] bs = sym (joinedEntries-short (drop i ns) (drop (suc i) bs))
-drop-joinedEntries (suc i) (n ∷ ns) (p ∷ ps) [] = sym (joinedEntries-shorter (drop i ns) (drop i ps))
-drop-joinedEntries (suc i) (n ∷ ns) (p ∷ ps) (b ∷ bs) = drop-joinedEntries i ns ps bs
+drop-joined-entries zero ns ps bs = refl
+drop-joined-entries (suc i) [] ps bs = refl
+drop-joined-entries (suc i) (n ∷ ns) [] bs = sym (joined-entries-short (drop i ns) (drop (suc i) bs))
+drop-joined-entries (suc i) (n ∷ ns) (p ∷ ps) [] = sym (joined-entries-shorter (drop i ns) (drop i ps))
+drop-joined-entries (suc i) (n ∷ ns) (p ∷ ps) (b ∷ bs) = drop-joined-entries i ns ps bs
 
 -- the entry at place i of the first n
-pub step-joinedEntries : (n : ℕ) (ns ps bs : List ℕ) (i : ℕ) → n ≤ length ns → n ≤ length ps → n ≤ length bs → i < n →
+pub step-joined-entries : (n : ℕ) (ns ps bs : List ℕ) (i : ℕ) → n ≤ length ns → n ≤ length ps → n ≤ length bs → i < n →
     Step (joinedEntries (take n ns) (take n ps) (take n bs)) i (joinedEntry (getD ns i 0) (getD ps i 0) (getD bs i 0))
 unfolding joinedEntries
-step-joinedEntries n ns ps bs i k l m h = record {
+step-joined-entries n ns ps bs i k l m h = record {
   split = rw (
-    drop-joinedEntries i (take n ns) (take n ps) (take n bs),
-    drop-joinedEntries (i + 1) (take n ns) (take n ps) (take n bs),
+    drop-joined-entries i (take n ns) (take n ps) (take n bs),
+    drop-joined-entries (i + 1) (take n ns) (take n ps) (take n bs),
     step-first n ns i 0 k h .split,
     step-first n ps i 0 l h .split,
     step-first n bs i 0 m h .split,
   );
 }
 
-pub past-joinedEntries : (n : ℕ) (ns ps bs : List ℕ) (i : ℕ) → n ≤ length ns → n ≤ i → Past (joinedEntries (take n ns) ps bs) i
+pub past-joined-entries : (n : ℕ) (ns ps bs : List ℕ) (i : ℕ) → n ≤ length ns → n ≤ i → Past (joinedEntries (take n ns) ps bs) i
 unfolding joinedEntries
-past-joinedEntries n ns ps bs i l h = record { rest = rw (drop-joinedEntries i (take n ns) ps bs, past-first n ns i l h .rest) }
+past-joined-entries n ns ps bs i l h = record { rest = rw (drop-joined-entries i (take n ns) ps bs, past-first n ns i l h .rest) }
 
 -- ---- a loop over joined legs that tests their partners
 

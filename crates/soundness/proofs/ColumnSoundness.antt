@@ -20,8 +20,8 @@ use Rattle.board.specs.Soundness.{validRow, validEntry, sameNumbers, sameRefere
 use Rattle.board.specs.LinkIds.{mostLinkIds}
 use Rattle.board.specs.Code.RowTests.{fits}
 use Rattle.board.proofs.Rows.{fits-all}
-use Rattle.row_tests.specs.Code.RowKeys.{linkNumber}
-use Rattle.row_tests.proofs.KeyLaws.{same-number, bit-one}
+use Rattle.row_soundness.specs.Code.RowKeys.{linkNumber}
+use Rattle.row_soundness.proofs.KeyLaws.{same-number, bit-one}
 use Rattle.soundness.specs.Code.Columns.{legIn, referenceIn, linkIn, joinedLeg, ownIn, partnerOf, partnerIn, alertingOf, alertingIn, joinedEntries, allPartnered}
 
 -- ---- distinctness
@@ -62,10 +62,10 @@ links-counted es =
 abbrev joined : Entry → Bool
 joined e = isJoined (e .connection)
 
-joinedEntries-taken : (es : List Entry) → joinedEntries (pick ownIn es) (pick partnerIn es) (pick alertingIn es) ≡ keep joined es
+joined-entries-taken : (es : List Entry) → joinedEntries (pick ownIn es) (pick partnerIn es) (pick alertingIn es) ≡ keep joined es
 unfolding joinedEntries
-joinedEntries-taken [] = refl
-joinedEntries-taken (e ∷ es) = go (e .leg) (e .connection) (joinedEntries-taken es)
+joined-entries-taken [] = refl
+joined-entries-taken (e ∷ es) = go (e .leg) (e .connection) (joined-entries-taken es)
   where
     go : (n : ℕ) (k : Connection) → joinedEntries (pick ownIn es) (pick partnerIn es) (pick alertingIn es) ≡ keep joined es →
         joinedEntries (consOpt (joinedLeg n k) (pick ownIn es)) (consOpt (partnerOf k) (pick partnerIn es)) (consOpt (alertingOf k) (pick alertingIn es)) ≡ consIf (isJoined k) (entry n k) (keep joined es)
@@ -124,7 +124,7 @@ sound-by-columns rows =
       ← references-distinct (taken rows),
       ← links-distinct (taken rows),
       ← links-counted (taken rows),
-      joinedEntries-taken (taken rows),
+      joined-entries-taken (taken rows),
       ← partners-joined (taken rows),
     )
     (sym (and-assoc (all validRow rows) (all validEntry (taken rows)) _))

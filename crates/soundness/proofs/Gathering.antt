@@ -16,8 +16,8 @@ use Rattle.board.specs.Entries.{entryOf, rowEntry, taken}
 use Rattle.board.specs.Soundness.{soundRows}
 use Rattle.board.specs.Code.RowTests.{fits, takenRow}
 use Rattle.board.proofs.Rows.{empty-standing, unfit-rows}
-use Rattle.row_tests.specs.declared.keys.RowKey.{RowKey}
-use Rattle.row_tests.specs.Code.RowKeys.{keyOf}
+use Rattle.row_soundness.specs.declared.keys.RowKey.{RowKey}
+use Rattle.row_soundness.specs.Code.RowKeys.{keyOf}
 use Rattle.soundness.specs.declared.Columns.{Columns}
 use Rattle.soundness.specs.Code.Columns.{legIn, referenceIn, linkIn, ownIn, partnerIn, alertingIn, soundColumns, Gathered}
 use Rattle.soundness.proofs.ColumnLaws.{Column, column-start, column-skip, column-step, column-end, gives-leg, gives-reference, gives-link, gives-own, gives-partner, gives-alerting}

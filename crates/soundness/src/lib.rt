@@ -17,12 +17,12 @@ use board::MOST_LINK_IDS;
 use board::Row;
 use board::Tally;
 use board::valid_options;
-use row_tests::is_taken;
-use row_tests::keys::JoinedLeg;
-use row_tests::keys::answers;
-use row_tests::keys::row_key;
-use row_tests::row_fits;
-use row_tests::row_tally;
+use row_soundness::is_taken;
+use row_soundness::keys::JoinedLeg;
+use row_soundness::keys::answers;
+use row_soundness::keys::row_key;
+use row_soundness::row_fits;
+use row_soundness::row_tally;
 
 // Whether a number stands in a column from a place on, before place n.
 fn is_later(number: u32, column: &[u32], from: usize, n: usize) -> bool

@@ -10,7 +10,7 @@ use Rattle.octets.specs.Lists.{all}
 use Rattle.octets.proofs.Loops.{all-end}
 use Rattle.board.specs.Soundness.{partnered}
 use Rattle.soundness.specs.Code.Columns.{joinedEntries, allPartnered}
-use Rattle.soundness.proofs.ColumnLaws.{step-joinedEntries, past-joinedEntries, partner-itself, partner-found, partner-missed}
+use Rattle.soundness.proofs.ColumnLaws.{step-joined-entries, past-joined-entries, partner-itself, partner-found, partner-missed}
 
 abbrev Inv-loop : tie.InvT-loop
 Inv-loop legs partners alerting n places i₀ i = (i ≤ n) × (all (partnered (joinedEntries (take n legs) (take n partners) (take n alerting))) (drop i (joinedEntries (take n legs) (take n partners) (take n alerting))) ≡ allPartnered (joinedEntries (take n legs) (take n partners) (take n alerting)))
@@ -31,7 +31,7 @@ returns : tie.Need-returns Inv-loop μ-loop
 returns c =
     let v = c .before .before .before .before .before .before .before .before .before .args in
     let i = c .before .before .before .before .loop .i in
-    let s = step-joinedEntries (v .n) (v .legs .now) (v .partners .now) (v .alerting .now) i (omega arith) (omega arith) (omega arith) (omega arith) in
+    let s = step-joined-entries (v .n) (v .legs .now) (v .partners .now) (v .alerting .now) i (omega arith) (omega arith) (omega arith) (omega arith) in
     partner-itself s (c .before .before .before .before .loop .inv .1) (rw (c .before .before .joined-leg-at .ensures) at (c .if1 .taken))
 
 cast-low : tie.Need-cast-low Inv-loop μ-loop
@@ -50,7 +50,7 @@ returns-2 : tie.Need-returns-2 Inv-loop μ-loop
 returns-2 c =
     let v = c .before .before .before .before .before .before .before .before .before .before .before .before .args in
     let i = c .before .before .before .before .before .before .before .loop .i in
-    let s = step-joinedEntries (v .n) (v .legs .now) (v .partners .now) (v .alerting .now) i (omega arith) (omega arith) (omega arith) (omega arith) in
+    let s = step-joined-entries (v .n) (v .legs .now) (v .partners .now) (v .alerting .now) i (omega arith) (omega arith) (omega arith) (omega arith) in
     partner-missed s (c .before .before .before .before .before .before .before .loop .inv .1) (rw (c .before .before .before .before .before .joined-leg-at .ensures) at (c .before .before .before .if1 .left)) (rw (c .before .before .before .before .before .joined-leg-at .ensures) at (c .before .is-answered .ensures)) (not-true _ (c .if2 .taken))
 
 add-i : tie.Need-add-i Inv-loop μ-loop
@@ -63,13 +63,13 @@ loop-again : tie.Need-loop-again Inv-loop μ-loop
 loop-again c =
     let v = c .before .before .before .before .before .before .before .before .before .before .before .before .args in
     let i = c .before .before .before .before .before .before .before .loop .i in
-    let s = step-joinedEntries (v .n) (v .legs .now) (v .partners .now) (v .alerting .now) i (omega arith) (omega arith) (omega arith) (omega arith) in
+    let s = step-joined-entries (v .n) (v .legs .now) (v .partners .now) (v .alerting .now) i (omega arith) (omega arith) (omega arith) (omega arith) in
     (search needs, partner-found s (c .before .before .before .before .before .before .before .loop .inv .1) (rw (c .before .before .before .before .before .joined-leg-at .ensures) at (c .before .before .before .if1 .left)) (rw (c .before .before .before .before .before .joined-leg-at .ensures) at (c .before .is-answered .ensures)) (not-false _ (c .if2 .left)))
 
 returns-3 : tie.Need-returns-3 Inv-loop μ-loop
 returns-3 c =
     let v = c .before .before .before .before .before .before .args in
-    all-end (past-joinedEntries (v .n) (v .legs .now) _ _ (c .before .loop .i) (omega arith) (omega arith)) _ ∙ c .before .loop .inv .1
+    all-end (past-joined-entries (v .n) (v .legs .now) _ _ (c .before .loop .i) (omega arith) (omega arith)) _ ∙ c .before .loop .inv .1
 
 pub all-joined-back-spec : {M : Type 1} → statement M
 all-joined-back-spec =

@@ -14,10 +14,10 @@ use Rattle.board.specs.declared.Row.{Row}
 use Rattle.board.specs.declared.Entry.{Entry}
 use Rattle.board.specs.Entries.{referenceOf, linkIdOf}
 use Rattle.board.specs.Soundness.{partnered, soundRows}
-use Rattle.row_tests.specs.declared.keys.JoinedLeg.{JoinedLeg}
+use Rattle.row_soundness.specs.declared.keys.JoinedLeg.{JoinedLeg}
 use Rattle.board.specs.LinkIds.{mostLinkIds}
 use Rattle.soundness.specs.declared.Columns.{Columns}
-use Rattle.row_tests.specs.Code.RowKeys.{linkNumber, joinedEntry, answersJoinedLeg}
+use Rattle.row_soundness.specs.Code.RowKeys.{linkNumber, joinedEntry, answersJoinedLeg}
 
 -- ---- what an entry puts into each column
 
