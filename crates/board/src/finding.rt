@@ -62,14 +62,11 @@ fn is_link_id(link: OptionalLinkId, id: LinkId) -> bool
 fn has_link_id(standing: Standing, id: LinkId) -> bool
     ensures { λ r. ⌜ r ≡ hasLinkIdOf (id .0) standing ⌝ }
 {
-    match standing {
-        Standing::Empty => false,
-        Standing::Served(call) => {
-            let link = call.link;
-            is_link_id(link, id)
-        }
-        Standing::Joined { .. } => false,
-    }
+    let Standing::Served(call) = standing else {
+        return false;
+    };
+    let link = call.link;
+    is_link_id(link, id)
 }
 
 fn matches(row: Row, key: Key) -> bool
