@@ -8,9 +8,9 @@ use mathlib.Core.Option.{Option, none, some}
 use lib.IntN.{ℤ}
 use Rattle.octets.specs.declared.LinkId.{LinkId}
 use Rattle.octets.specs.Numbers.{sameInteger, nextLinkId}
-use Rattle.octets.specs.Lists.{any, pick, placeFrom}
+use Rattle.octets.specs.Lists.{any, filterMap, placeFrom}
 use Rattle.octets.proofs.Lists.{any-ext}
-use Rattle.octets.proofs.Places.{any-pick, pick-pick, pick-ext}
+use Rattle.octets.proofs.Places.{any-filterMap, filterMap-filterMap, filterMap-ext}
 use Rattle.board.specs.declared.Row.{Row}
 use Rattle.board.specs.declared.Found.the-variants.{At, Nothing}
 use Rattle.board.specs.declared.finding.Key.the-variants as key
@@ -26,10 +26,10 @@ is-linkId z none = refl
 is-linkId z (some y) = refl
 
 -- the LinkIds of the calls are those that the entries have
-live-entries : (es : List Entry) → live (calls es) ≡ pick (λ (e : Entry). linkIdOf (e .connection)) es
+live-entries : (es : List Entry) → live (calls es) ≡ filterMap (λ (e : Entry). linkIdOf (e .connection)) es
 live-entries es =
-    pick-pick (λ (p : Party). linkIdIn (p .call .link)) (λ (e : Entry). partyOf (e .leg) (e .connection)) es
-    ∙ pick-ext (λ (e : Entry). bindOption (λ (p : Party). linkIdIn (p .call .link)) (partyOf (e .leg) (e .connection))) (λ (e : Entry). linkIdOf (e .connection)) es (λ e. go (e .leg) (e .connection))
+    filterMap-filterMap (λ (p : Party). linkIdIn (p .call .link)) (λ (e : Entry). partyOf (e .leg) (e .connection)) es
+    ∙ filterMap-ext (λ (e : Entry). bindOption (λ (p : Party). linkIdIn (p .call .link)) (partyOf (e .leg) (e .connection))) (λ (e : Entry). linkIdOf (e .connection)) es (λ e. go (e .leg) (e .connection))
   where
     go : (n : ℕ) (c : Connection) → bindOption (λ (p : Party). linkIdIn (p .call .link)) (partyOf n c) ≡ linkIdOf c
     go n (WithUser c) = refl
@@ -38,7 +38,7 @@ live-entries es =
 pub live-any : (z : ℤ) (es : List Entry) → any (sameInteger z) (live (calls es)) ≡ any (hasLinkId z) es
 live-any z es =
     ap (any (sameInteger z)) (live-entries es)
-    ∙ any-pick (sameInteger z) (λ (e : Entry). linkIdOf (e .connection)) es
+    ∙ any-filterMap (sameInteger z) (λ (e : Entry). linkIdOf (e .connection)) es
     ∙ any-ext (λ (e : Entry). has (sameInteger z) (linkIdOf (e .connection))) (hasLinkId z) es (λ e. is-linkId z (linkIdOf (e .connection)))
 
 -- a LinkId is live where some row has it

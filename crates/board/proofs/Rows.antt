@@ -6,10 +6,10 @@ use mathlib.Core.List.{List, List·Memᴰ}
 use mathlib.Core.Option.{Option, none, some}
 use lib.Dec.{eqb, leb}
 use lib.ListN.{length}
-use Rattle.octets.specs.Lists.{any, all, keep, distinct}
+use Rattle.octets.specs.Lists.{any, all, filter, distinct}
 use Rattle.octets.specs.Tests.{has, noneOr}
-use Rattle.octets.proofs.Lists.{any-of, keep-ext, same-tests, true-not-false}
-use Rattle.octets.proofs.Loops.{all-pick, any-pick, distinct-pick, all-and, any-and, all-same, distinct-or, length-pick, length-keep-pick}
+use Rattle.octets.proofs.Lists.{any-of, filter-ext, same-tests, true-not-false}
+use Rattle.octets.proofs.Loops.{all-filterMap, any-filterMap, distinct-filterMap, all-and, any-and, all-same, distinct-or, length-filterMap, length-filter-filterMap}
 use Rattle.board.specs.declared.Standing.{Standing}
 use Rattle.board.specs.declared.Standing.the-variants.{Empty, Served, Joined}
 use Rattle.board.specs.declared.PartyNumber.{PartyNumber}
@@ -56,12 +56,12 @@ empty-row-fits r t = rw (empty-standing (r .standing) t) (and-true _)
 
 pub fits-all : (rows : List Row) → all fits rows ≡ (all validRow rows && all validEntry (taken rows))
 unfolding fits
-fits-all rows = all-and validRow (λ (r : Row). noneOr validEntry (rowEntry r)) rows ∙ ap (λ (b : Bool). all validRow rows && b) (sym (all-pick rowEntry validEntry rows))
+fits-all rows = all-and validRow (λ (r : Row). noneOr validEntry (rowEntry r)) rows ∙ ap (λ (b : Bool). all validRow rows && b) (sym (all-filterMap rowEntry validEntry rows))
 
 pub clash-all : (rows : List Row) → distinct clash rows ≡ (distinct sameLegs (taken rows) && (distinct sameReferences (taken rows) && distinct sameLinkIds (taken rows)))
 unfolding clash
 clash-all rows =
-    sym (distinct-pick rowEntry clashing rows)
+    sym (distinct-filterMap rowEntry clashing rows)
     ∙ distinct-or sameLegs sharing (taken rows)
     ∙ ap (λ (b : Bool). distinct sameLegs (taken rows) && b) (distinct-or sameReferences sameLinkIds (taken rows))
 
@@ -71,13 +71,13 @@ partner-any rows n (WithUser c) t = refl
 partner-any rows n (WithPartner p a) t = go (not (eqb n p)) (sym (any-and (not (eqb n p)) (λ (b : Row). has (answersTo n p a) (rowEntry b)) rows) ∙ t)
   where
     go : (b : Bool) → (b && any (λ (b : Row). has (answersTo n p a) (rowEntry b)) rows) ≡ true → (b && any (answersTo n p a) (taken rows)) ≡ true
-    go b t = rw (any-pick rowEntry (answersTo n p a) rows) t
+    go b t = rw (any-filterMap rowEntry (answersTo n p a) rows) t
 
 any-partner : (rows : List Row) (r : Row) (n : ℕ) (k : Connection) → List·Memᴰ r rows → validPartner (taken rows) n k ≡ true → any (λ (b : Row). partneredBy n k (rowEntry b)) rows ≡ true
 any-partner rows r n (WithUser c) m t = any-of (λ (b : Row). true) m refl
 any-partner rows r n (WithPartner p a) m t =
     any-and (not (eqb n p)) (λ (b : Row). has (answersTo n p a) (rowEntry b)) rows
-    ∙ ap (λ (b : Bool). not (eqb n p) && b) (sym (any-pick rowEntry (answersTo n p a) rows))
+    ∙ ap (λ (b : Bool). not (eqb n p) && b) (sym (any-filterMap rowEntry (answersTo n p a) rows))
     ∙ t
 
 one-paired : (rows : List Row) (r : Row) (o : Option Entry) → List·Memᴰ r rows →
@@ -89,7 +89,7 @@ pub paired-all : (rows : List Row) → all (λ (a : Row). any (paired a) rows) r
 unfolding paired
 paired-all rows =
     all-same (λ (a : Row). any (paired a) rows) (λ (a : Row). noneOr (partnered (taken rows)) (rowEntry a)) rows (λ r m. one-paired rows r (rowEntry r) m)
-    ∙ sym (all-pick rowEntry (partnered (taken rows)) rows)
+    ∙ sym (all-filterMap rowEntry (partnered (taken rows)) rows)
 
 -- ---- the whole
 
@@ -126,10 +126,10 @@ occupied-has leg Empty = refl
 occupied-has leg (Served c) = refl
 occupied-has leg (Joined p a) = refl
 
-pub tally-all : (rows : List Row) → tallyOf rows ≡ record { legs = length (keep takenRow rows); joined = length (keep joinedRow rows); links = length (keep linkedRow rows) }
+pub tally-all : (rows : List Row) → tallyOf rows ≡ record { legs = length (filter takenRow rows); joined = length (filter joinedRow rows); links = length (filter linkedRow rows) }
 unfolding tallyOf
 tally-all rows =
-    let a = length-pick rowEntry rows ∙ ap (λ (l : List Row). length l) (keep-ext (λ (r : Row). has (λ (e : Entry). true) (rowEntry r)) takenRow rows (λ r. occupied-has (r .leg) (r .standing))) in
-    let b = length-keep-pick rowEntry (λ (e : Entry). isJoined (e .connection)) rows in
-    let k = length-keep-pick rowEntry linked rows in
+    let a = length-filterMap rowEntry rows ∙ ap (λ (l : List Row). length l) (filter-ext (λ (r : Row). has (λ (e : Entry). true) (rowEntry r)) takenRow rows (λ r. occupied-has (r .leg) (r .standing))) in
+    let b = length-filter-filterMap rowEntry (λ (e : Entry). isJoined (e .connection)) rows in
+    let k = length-filter-filterMap rowEntry linked rows in
     rw (a, b, k)

@@ -14,9 +14,9 @@ use lib.ListN.{length, getD, set, take, drop, drop-of-length-le}
 use lib.Seq.{drop-cons, take-all}
 use Rattle.octets.specs.declared.CallReference.{CallReference}
 use Rattle.octets.specs.declared.LinkId.{LinkId}
-use Rattle.octets.specs.Lists.{any, find, pick, placeFrom, orElse}
+use Rattle.octets.specs.Lists.{any, find, filterMap, placeFrom, orElse}
 use Rattle.octets.proofs.Lists.{is-not, any-ext}
-use Rattle.octets.proofs.Places.{told, Lowest, place-cons, place-lowest, place-none, place-some, none-place, place-ext, pickAt, find-pick, any-pick, pick-pick}
+use Rattle.octets.proofs.Places.{told, Lowest, place-cons, place-lowest, place-none, place-some, none-place, place-ext, valueAt, find-filterMap, any-filterMap, filterMap-filterMap}
 use Rattle.board.specs.declared.Standing.{Standing}
 use Rattle.board.specs.declared.Standing.the-variants.{Empty, Served, Joined}
 use Rattle.board.specs.declared.Row.{Row}
@@ -130,33 +130,33 @@ linkId-test l row = go (row .standing)
     go (Joined p a) = refl
 
 entry-found : (q : Entry → Bool) (p : Row → Bool) (rows : List Row) (d : Row) → ((row : Row) → has q (rowEntry row) ≡ p row) →
-    find q (taken rows) ≡ pickAt rowEntry d rows (placeFrom p 0 rows)
-entry-found q p rows d f = find-pick q rowEntry d rows ∙ ap (pickAt rowEntry d rows) (place-ext (λ (row : Row). has q (rowEntry row)) p 0 rows f)
+    find q (taken rows) ≡ valueAt rowEntry d rows (placeFrom p 0 rows)
+entry-found q p rows d f = find-filterMap q rowEntry d rows ∙ ap (valueAt rowEntry d rows) (place-ext (λ (row : Row). has q (rowEntry row)) p 0 rows f)
 
-pub entry-by-leg : (n : ℕ) (rows : List Row) (d : Row) → find (hasLeg n) (taken rows) ≡ pickAt rowEntry d rows (placeFrom (matchesKey (key.Leg n)) 0 rows)
+pub entry-by-leg : (n : ℕ) (rows : List Row) (d : Row) → find (hasLeg n) (taken rows) ≡ valueAt rowEntry d rows (placeFrom (matchesKey (key.Leg n)) 0 rows)
 entry-by-leg n rows d = entry-found (hasLeg n) (matchesKey (key.Leg n)) rows d (leg-test n)
 
 pub entry-by-reference : (r : CallReference) (rows : List Row) (d : Row) →
-    find (hasReference (r .0)) (taken rows) ≡ pickAt rowEntry d rows (placeFrom (matchesKey (key.Reference r)) 0 rows)
+    find (hasReference (r .0)) (taken rows) ≡ valueAt rowEntry d rows (placeFrom (matchesKey (key.Reference r)) 0 rows)
 entry-by-reference r rows d = entry-found (hasReference (r .0)) (matchesKey (key.Reference r)) rows d (reference-test r)
 
 pub entry-by-linkId : (l : LinkId) (rows : List Row) (d : Row) →
-    find (hasLinkId (l .0)) (taken rows) ≡ pickAt rowEntry d rows (placeFrom (matchesKey (key.LinkId l)) 0 rows)
+    find (hasLinkId (l .0)) (taken rows) ≡ valueAt rowEntry d rows (placeFrom (matchesKey (key.LinkId l)) 0 rows)
 entry-by-linkId l rows d = entry-found (hasLinkId (l .0)) (matchesKey (key.LinkId l)) rows d (linkId-test l)
 
 -- the same, by the answer of the search
 
 pub leg-at : (n : ℕ) (rows : List Row) (d : Row) (i : ℕ) → foundAt (placeFrom (matchesKey (key.Leg n)) 0 rows) ≡ At i →
     find (hasLeg n) (taken rows) ≡ rowEntry (getD rows i d)
-leg-at n rows d i e = entry-by-leg n rows d ∙ ap (pickAt rowEntry d rows) (found-at (placeFrom (matchesKey (key.Leg n)) 0 rows) i e)
+leg-at n rows d i e = entry-by-leg n rows d ∙ ap (valueAt rowEntry d rows) (found-at (placeFrom (matchesKey (key.Leg n)) 0 rows) i e)
 
 pub leg-nowhere : (n : ℕ) (rows : List Row) → foundAt (placeFrom (matchesKey (key.Leg n)) 0 rows) ≡ Nothing → find (hasLeg n) (taken rows) ≡ none
-leg-nowhere n rows e = entry-by-leg n rows emptyRow ∙ ap (pickAt rowEntry emptyRow rows) (found-nothing (placeFrom (matchesKey (key.Leg n)) 0 rows) e)
+leg-nowhere n rows e = entry-by-leg n rows emptyRow ∙ ap (valueAt rowEntry emptyRow rows) (found-nothing (placeFrom (matchesKey (key.Leg n)) 0 rows) e)
 
 -- ---- some entry has a leg, a reference or a LinkId where some row has it
 
 any-entry : (q : Entry → Bool) (p : Row → Bool) (rows : List Row) → ((row : Row) → has q (rowEntry row) ≡ p row) → any q (taken rows) ≡ any p rows
-any-entry q p rows f = any-pick q rowEntry rows ∙ any-ext (λ (row : Row). has q (rowEntry row)) p rows f
+any-entry q p rows f = any-filterMap q rowEntry rows ∙ any-ext (λ (row : Row). has q (rowEntry row)) p rows f
 
 pub any-leg : (n : ℕ) (rows : List Row) → any (hasLeg n) (taken rows) ≡ any (matchesKey (key.Leg n)) rows
 any-leg n rows = any-entry (hasLeg n) (matchesKey (key.Leg n)) rows (leg-test n)
@@ -169,13 +169,13 @@ any-linkId l rows = any-entry (hasLinkId (l .0)) (matchesKey (key.LinkId l)) row
 
 -- ---- the party that the definitions look up is that of the row found
 
-pub calls-of-rows : (rows : List Row) → calls (taken rows) ≡ pick rowParty rows
-calls-of-rows rows = pick-pick (λ (e : Entry). partyOf (e .leg) (e .connection)) rowEntry rows
+pub calls-of-rows : (rows : List Row) → calls (taken rows) ≡ filterMap rowParty rows
+calls-of-rows rows = filterMap-filterMap (λ (e : Entry). partyOf (e .leg) (e .connection)) rowEntry rows
 
 party-found : (q : Party → Bool) (p : Row → Bool) (rows : List Row) (d : Row) → ((row : Row) → has q (rowParty row) ≡ p row) →
-    find q (calls (taken rows)) ≡ pickAt rowParty d rows (placeFrom p 0 rows)
+    find q (calls (taken rows)) ≡ valueAt rowParty d rows (placeFrom p 0 rows)
 party-found q p rows d f =
-    ap (find q) (calls-of-rows rows) ∙ find-pick q rowParty d rows ∙ ap (pickAt rowParty d rows) (place-ext (λ (row : Row). has q (rowParty row)) p 0 rows f)
+    ap (find q) (calls-of-rows rows) ∙ find-filterMap q rowParty d rows ∙ ap (valueAt rowParty d rows) (place-ext (λ (row : Row). has q (rowParty row)) p 0 rows f)
 
 party-reference-test : (r : CallReference) (row : Row) → has (hasPartyReference (r .0)) (rowParty row) ≡ matchesKey (key.Reference r) row
 party-reference-test r row = go (row .standing)
@@ -194,32 +194,32 @@ party-linkId-test l row = go (row .standing)
     go (Joined p a) = refl
 
 pub party-by-reference : (r : CallReference) (rows : List Row) (d : Row) →
-    find (hasPartyReference (r .0)) (calls (taken rows)) ≡ pickAt rowParty d rows (placeFrom (matchesKey (key.Reference r)) 0 rows)
+    find (hasPartyReference (r .0)) (calls (taken rows)) ≡ valueAt rowParty d rows (placeFrom (matchesKey (key.Reference r)) 0 rows)
 party-by-reference r rows d = party-found (hasPartyReference (r .0)) (matchesKey (key.Reference r)) rows d (party-reference-test r)
 
 pub party-by-linkId : (l : LinkId) (rows : List Row) (d : Row) →
-    find (hasPartyLinkId (l .0)) (calls (taken rows)) ≡ pickAt rowParty d rows (placeFrom (matchesKey (key.LinkId l)) 0 rows)
+    find (hasPartyLinkId (l .0)) (calls (taken rows)) ≡ valueAt rowParty d rows (placeFrom (matchesKey (key.LinkId l)) 0 rows)
 party-by-linkId l rows d = party-found (hasPartyLinkId (l .0)) (matchesKey (key.LinkId l)) rows d (party-linkId-test l)
 
 -- the same, by the answer of the search
 
 pub reference-at : (r : CallReference) (rows : List Row) (d : Row) (i : ℕ) → foundAt (placeFrom (matchesKey (key.Reference r)) 0 rows) ≡ At i →
     find (hasPartyReference (r .0)) (calls (taken rows)) ≡ rowParty (getD rows i d)
-reference-at r rows d i e = party-by-reference r rows d ∙ ap (pickAt rowParty d rows) (found-at (placeFrom (matchesKey (key.Reference r)) 0 rows) i e)
+reference-at r rows d i e = party-by-reference r rows d ∙ ap (valueAt rowParty d rows) (found-at (placeFrom (matchesKey (key.Reference r)) 0 rows) i e)
 
 pub reference-nowhere : (r : CallReference) (rows : List Row) → foundAt (placeFrom (matchesKey (key.Reference r)) 0 rows) ≡ Nothing →
     find (hasPartyReference (r .0)) (calls (taken rows)) ≡ none
 reference-nowhere r rows e =
-    party-by-reference r rows emptyRow ∙ ap (pickAt rowParty emptyRow rows) (found-nothing (placeFrom (matchesKey (key.Reference r)) 0 rows) e)
+    party-by-reference r rows emptyRow ∙ ap (valueAt rowParty emptyRow rows) (found-nothing (placeFrom (matchesKey (key.Reference r)) 0 rows) e)
 
 pub linkId-at : (l : LinkId) (rows : List Row) (d : Row) (i : ℕ) → foundAt (placeFrom (matchesKey (key.LinkId l)) 0 rows) ≡ At i →
     find (hasPartyLinkId (l .0)) (calls (taken rows)) ≡ rowParty (getD rows i d)
-linkId-at l rows d i e = party-by-linkId l rows d ∙ ap (pickAt rowParty d rows) (found-at (placeFrom (matchesKey (key.LinkId l)) 0 rows) i e)
+linkId-at l rows d i e = party-by-linkId l rows d ∙ ap (valueAt rowParty d rows) (found-at (placeFrom (matchesKey (key.LinkId l)) 0 rows) i e)
 
 pub linkId-nowhere : (l : LinkId) (rows : List Row) → foundAt (placeFrom (matchesKey (key.LinkId l)) 0 rows) ≡ Nothing →
     find (hasPartyLinkId (l .0)) (calls (taken rows)) ≡ none
 linkId-nowhere l rows e =
-    party-by-linkId l rows emptyRow ∙ ap (pickAt rowParty emptyRow rows) (found-nothing (placeFrom (matchesKey (key.LinkId l)) 0 rows) e)
+    party-by-linkId l rows emptyRow ∙ ap (valueAt rowParty emptyRow rows) (found-nothing (placeFrom (matchesKey (key.LinkId l)) 0 rows) e)
 
 -- ---- Open: the lowest empty row is stored to
 

@@ -10,9 +10,9 @@ use lib.IntN.{ℤ}
 use Rattle.board.specs.Entries.{Entry, linkIds, hasLeg, isNumber, isLinkId, hasReference, referenceOf, hasLinkId, linkIdOf, linked, Connection, WithUser, WithPartner}
 use Rattle.board.specs.LinkIds.{mostLinkIds}
 use Rattle.board.specs.Soundness.{validEntry, sameLegs, sameReferences, sameLinkIds, partnered, soundEntries, sameNumbers, sameLinkIdsIn, validPartner, answersTo}
-use Rattle.octets.proofs.Lists.{right, left, both, eqb-sym, distinct-one, eqb-of, eqb-eq, true-not-false, small-mem, mem-keep, Perm, all-perm, distinct-perm, length-perm, keep-perm, all-ext, any-perm}
+use Rattle.octets.proofs.Lists.{right, left, both, eqb-sym, distinct-one, eqb-of, eqb-eq, true-not-false, small-mem, mem-filter, Perm, all-perm, distinct-perm, length-perm, filter-perm, all-ext, any-perm}
 use Rattle.octets.proofs.SameInteger.{sameInteger-sym, sameInteger-eq, sameInteger-self}
-use Rattle.octets.specs.Lists.{all, distinct, keep}
+use Rattle.octets.specs.Lists.{all, distinct, filter}
 use Rattle.octets.specs.Numbers.{sameInteger}
 
 -- ---- what soundness says
@@ -61,7 +61,7 @@ sameLinkIdsIn-sym (some m) (some n) = sameInteger-sym m n
 
 -- ---- one entry for a leg, a reference, a LinkId
 
-pub legs-one : (n : ℕ) {es : List Entry} → Sound es → length (keep (hasLeg n) es) ≤ 1
+pub legs-one : (n : ℕ) {es : List Entry} → Sound es → length (filter (hasLeg n) es) ≤ 1
 legs-one n {es} s = distinct-one sameLegs (hasLeg n) (λ e f a b. eqb-of (e .leg) (f .leg) (sym (eqb-eq n (e .leg) a) ∙ eqb-eq n (f .leg) b)) es (s .legs)
 
 pub isNumber-same : (r : ℕ) (o u : Option ℕ) → isNumber r o ≡ true → isNumber r u ≡ true → sameNumbers o u ≡ true
@@ -74,15 +74,15 @@ isLinkId-same z none u a b = absurd (true-not-false a refl)
 isLinkId-same z (some x) none a b = absurd (true-not-false b refl)
 isLinkId-same z (some x) (some y) a b = subst (λ (w : ℤ). sameInteger x w ≡ true) (sym (sameInteger-eq z x a) ∙ sameInteger-eq z y b) (sameInteger-self x)
 
-pub refs-one : (r : ℕ) {es : List Entry} → Sound es → length (keep (hasReference r) es) ≤ 1
+pub refs-one : (r : ℕ) {es : List Entry} → Sound es → length (filter (hasReference r) es) ≤ 1
 refs-one r {es} s = distinct-one sameReferences (hasReference r) (λ e f a b. isNumber-same r (referenceOf (e .connection)) (referenceOf (f .connection)) a b) es (s .refs)
 
-pub lids-one : (z : ℤ) {es : List Entry} → Sound es → length (keep (hasLinkId z) es) ≤ 1
+pub lids-one : (z : ℤ) {es : List Entry} → Sound es → length (filter (hasLinkId z) es) ≤ 1
 lids-one z {es} s = distinct-one sameLinkIds (hasLinkId z) (λ e f a b. isLinkId-same z (linkIdOf (e .connection)) (linkIdOf (f .connection)) a b) es (s .lids)
 
 -- two entries of one leg are one entry
 pub one-leg : {es : List Entry} → Sound es → (n : ℕ) {e f : Entry} → List·Memᴰ e es → List·Memᴰ f es → hasLeg n e ≡ true → hasLeg n f ≡ true → e ≡ f
-one-leg {es} s n a b p q = small-mem (keep (hasLeg n) es) (legs-one n s) (mem-keep (hasLeg n) a p) (mem-keep (hasLeg n) b q)
+one-leg {es} s n a b p q = small-mem (filter (hasLeg n) es) (legs-one n s) (mem-filter (hasLeg n) a p) (mem-filter (hasLeg n) b q)
 
 -- ---- soundness does not turn on the order
 
@@ -92,7 +92,7 @@ sound-perm {l} {m} p s = record {
   legs = sym (distinct-perm sameLegs (λ e f. eqb-sym (e .leg) (f .leg)) p) ∙ s .legs;
   refs = sym (distinct-perm sameReferences (λ e f. sameNumbers-sym (referenceOf (e .connection)) (referenceOf (f .connection))) p) ∙ s .refs;
   lids = sym (distinct-perm sameLinkIds (λ e f. sameLinkIdsIn-sym (linkIdOf (e .connection)) (linkIdOf (f .connection))) p) ∙ s .lids;
-  few = ap (λ (n : ℕ). leb n mostLinkIds) (sym (length-perm (keep-perm linked p))) ∙ s .few;
+  few = ap (λ (n : ℕ). leb n mostLinkIds) (sym (length-perm (filter-perm linked p))) ∙ s .few;
   mates = sym (all-perm (partnered l) p ∙ all-ext (partnered l) (partnered m) m (λ e. partner (e .leg) (e .connection))) ∙ s .mates;
 }
   where

@@ -49,10 +49,10 @@ joined a b n (Served c) = cond (eqb a n) (Joined b (delivered c)) (cond (eqb b n
 joined a b n (Joined p x) = Joined p x
 
 -- "Answer: a joined, alerting leg stops alerting."
-abbrev pub answered : ℕ → ℕ → Standing → Standing
-answered l n Empty = Empty
-answered l n (Served c) = Served c
-answered l n (Joined p x) = Joined p (x && not (eqb l n))
+abbrev pub alertingEnded : ℕ → ℕ → Standing → Standing
+alertingEnded l n Empty = Empty
+alertingEnded l n (Served c) = Served c
+alertingEnded l n (Joined p x) = Joined p (x && not (eqb l n))
 
 -- "Release empties the leg's row and, if joined, its partner's."
 abbrev pub emptiedIf : Bool → Row → Row
@@ -63,7 +63,7 @@ rowAfter (SetState r s) row = mapStanding (changedCall r (withState s)) row
 rowAfter (SetAuxiliary r a) row = mapStanding (changedCall r (withAuxiliary a)) row
 rowAfter (SetLinkId r l) row = mapStanding (changedCall r (withLinkId l)) row
 rowAfter (Join a b) row = mapStanding (joined a b) row
-rowAfter (EndAlerting l) row = mapStanding (answered l) row
+rowAfter (EndAlerting l) row = mapStanding (alertingEnded l) row
 rowAfter (Release l) row = emptiedIf (eqb (row .leg) l) row
 rowAfter (ReleasePair l p) row = emptiedIf (eqb (row .leg) l || eqb (row .leg) p) row
 

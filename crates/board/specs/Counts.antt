@@ -3,7 +3,7 @@ use Prim.Native.Nat.{ℕ, _/_}
 use mathlib.Core.Bool.{cond}
 use mathlib.Core.List.{List}
 use lib.ListN.{length}
-use Rattle.octets.specs.Lists.{keep}
+use Rattle.octets.specs.Lists.{filter}
 use Rattle.board.specs.declared.Row.{Row}
 use Rattle.board.specs.declared.Counted.{Counted}
 use Rattle.board.specs.declared.Counted.the-variants.{Counts, Unsound}
@@ -15,7 +15,7 @@ abbrev pub legs : List Row → ℕ
 legs rows = length (taken rows)
 
 abbrev pub pairs : List Row → ℕ
-pairs rows = length (keep (λ (e : Entry). isJoined (e .connection)) (taken rows)) / 2
+pairs rows = length (filter (λ (e : Entry). isJoined (e .connection)) (taken rows)) / 2
 
 abbrev pub links : List Row → ℕ
 links rows = linkIds (taken rows)

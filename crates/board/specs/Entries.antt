@@ -7,7 +7,7 @@ use mathlib.Core.Option.{Option, none, some}
 use lib.Dec.{eqb}
 use lib.IntN.{ℤ}
 use lib.ListN.{length}
-use Rattle.octets.specs.Lists.{keep, pick}
+use Rattle.octets.specs.Lists.{filter, filterMap}
 use Rattle.octets.specs.Numbers.{sameInteger}
 use Rattle.board.specs.declared.OptionalLinkId.{OptionalLinkId}
 use Rattle.board.specs.declared.OptionalLinkId.the-variants.{Absent, Present}
@@ -40,7 +40,7 @@ abbrev pub rowEntry : Row → Option Entry
 rowEntry r = entryOf (r .leg) (r .standing)
 
 abbrev pub taken : List Row → List Entry
-taken rows = pick rowEntry rows
+taken rows = filterMap rowEntry rows
 
 -- the row is not empty
 abbrev pub occupied : Standing → Bool
@@ -58,7 +58,7 @@ abbrev pub rowParty : Row → Option Party
 rowParty r = bindOption (λ (e : Entry). partyOf (e .leg) (e .connection)) (rowEntry r)
 
 abbrev pub calls : List Entry → List Party
-calls es = pick (λ (e : Entry). partyOf (e .leg) (e .connection)) es
+calls es = filterMap (λ (e : Entry). partyOf (e .leg) (e .connection)) es
 
 -- ---- legs, references, LinkIds and partners
 
@@ -115,7 +115,7 @@ isPartner n (WithPartner p a) = eqb n p
 
 -- the number of live LinkIds
 abbrev pub linkIds : List Entry → ℕ
-linkIds es = length (keep linked es)
+linkIds es = length (filter linked es)
 
 -- ---- what a search for an entry or a party answers
 

@@ -4,7 +4,7 @@ use mathlib.Core.Bool.{Bool, true, false}
 use mathlib.Core.List.{List}
 use mathlib.Core.Option.{Option, none, some}
 use lib.IntN.{ℤ}
-use Rattle.octets.specs.Lists.{any, pick}
+use Rattle.octets.specs.Lists.{any, filterMap}
 use Rattle.octets.specs.Numbers.{sameInteger, nextLinkId}
 use Rattle.board.specs.declared.OptionalLinkId.{OptionalLinkId}
 use Rattle.board.specs.declared.OptionalLinkId.the-variants.{Absent, Present}
@@ -16,7 +16,7 @@ mostLinkIds = 16
 
 -- the term "live LinkIds": those of the calls with the served user
 abbrev pub live : List Party → List ℤ
-live ps = pick (λ (p : Party). linkIdIn (p .call .link)) ps
+live ps = filterMap (λ (p : Party). linkIdIn (p .call .link)) ps
 
 abbrev pub unlessLive : Bool → ℤ → Option ℤ → Option ℤ
 unlessLive true z later = later

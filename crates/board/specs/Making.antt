@@ -23,8 +23,8 @@ abbrev pub options : ℕ → ℕ → Options
 options s a = record { subscribed = s; alerting = a }
 
 -- "Making a fresh board takes one octet per option, each 0 or 1; else 5 is returned with an empty board, both options 0."
-abbrev pub unmade : Made
-unmade = record { returned = 5; board = emptyBoard (options 0 0) }
+abbrev pub makingRefused : Made
+makingRefused = record { returned = 5; board = emptyBoard (options 0 0) }
 
 unfoldable pub fresh : ℕ → ℕ → Made
-fresh s a = cond (validOptions (options s a)) (record { returned = 0; board = emptyBoard (options s a) }) unmade
+fresh s a = cond (validOptions (options s a)) (record { returned = 0; board = emptyBoard (options s a) }) makingRefused

@@ -3,7 +3,7 @@ ghost use mathlib.Core.Path.{_≡_};
 ghost use Rattle.octets.specs.Lists.{placeFrom, find as findIn};
 ghost use Rattle.board.specs.Entries.{occupied, taken, calls, linkIdIn, isLinkId};
 ghost use Rattle.board.specs.Lookup.{isCallOf, foundAt, foundRow, foundAnswer, lookup as lookupRows};
-ghost use Rattle.board.specs.Code.Keys.{hasLinkIdOf, matchesKey, surveyOf};
+ghost use Rattle.board.specs.Code.Keys.{hasLinkIdOf, matchesKey, openCheckOf};
 ghost use Rattle.board.specs.LinkIds.{mostLinkIds, live, freeLinkId, optionalLinkId};
 use crate::Board;
 use crate::Found;
@@ -24,7 +24,7 @@ pub enum Key {
 }
 
 // Whether a row has the leg, whether a call has the reference, and whether a row is empty.
-pub struct Survey {
+pub struct OpenCheck {
     pub leg: bool,
     pub reference: bool,
     pub empty: bool,
@@ -62,11 +62,17 @@ fn is_link_id(link: OptionalLinkId, id: LinkId) -> bool
 fn has_link_id(standing: Standing, id: LinkId) -> bool
     ensures { λ r. ⌜ r ≡ hasLinkIdOf (id .0) standing ⌝ }
 {
-    let Standing::Served(call) = standing else {
-        return false;
-    };
-    let link = call.link;
-    is_link_id(link, id)
+    match standing {
+        Standing::Empty => false,
+        Standing::Served(call) => {
+            let link = call.link;
+            is_link_id(link, id)
+        }
+        Standing::Joined {
+            partner: _,
+            alerting: _,
+        } => false,
+    }
 }
 
 fn matches(row: Row, key: Key) -> bool
@@ -107,8 +113,8 @@ pub fn find_row(board: Board, key: Key) -> Row
 }
 
 // All that an Open asks of the rows, in one pass over them.
-pub fn look_over(board: Board, leg: u32, reference: CallReference) -> Survey
-    ensures { λ r. ⌜ r ≡ surveyOf leg reference (board .rows) ⌝ }
+pub fn check_open(board: Board, leg: u32, reference: CallReference) -> OpenCheck
+    ensures { λ r. ⌜ r ≡ openCheckOf leg reference (board .rows) ⌝ }
 {
     let mut has_leg = false;
     let mut has_reference = false;
@@ -119,7 +125,7 @@ pub fn look_over(board: Board, leg: u32, reference: CallReference) -> Survey
         has_reference = has_reference | matches(row, Key::Reference(reference));
         has_empty = has_empty | matches(row, Key::Empty);
     }
-    Survey {
+    OpenCheck {
         leg: has_leg,
         reference: has_reference,
         empty: has_empty,

@@ -3,7 +3,7 @@ use octets::CallReference;
 use octets::LinkId;
 ghost use mathlib.Core.Path.{_≡_};
 ghost use Rattle.board.specs.Soundness.{validOptions};
-ghost use Rattle.board.specs.Making.{emptyRow, emptyBoard, unmade, fresh as freshBoard};
+ghost use Rattle.board.specs.Making.{emptyRow, emptyBoard, makingRefused, fresh as freshBoard};
 
 pub mod finding;
 
@@ -200,7 +200,7 @@ pub fn fresh(subscribed: u8, alerting: u8) -> Made
 }
 
 fn refused() -> Made
-    ensures { λ r. ⌜ r ≡ unmade ⌝ }
+    ensures { λ r. ⌜ r ≡ makingRefused ⌝ }
 {
     let board = empty_board(Options {
         subscribed: 0,

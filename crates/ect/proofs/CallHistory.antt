@@ -21,7 +21,7 @@ use Rattle.rules.specs.Step.{Outcome}
 use Rattle.rules.proofs.Errors.{unharmed, octets-error, untouched-step}
 use Rattle.rules.proofs.WholeHistory.{whole-history, any-order}
 use Rattle.ect.specs.CallHistory.{StepCall, CallHistory, lastBoard, numberOf, written, eventOf, events}
-use Rattle.ect.specs.Contract.{Shows, answerCount}
+use Rattle.ect.specs.Contract.{OutcomeOf, answerCount}
 use Rattle.ect.specs.declared.Stepped.{Stepped}
 use Rattle.board.proofs.Promises.{fresh-promise}
 use Rattle.board.proofs.fresh.Reads as fresh-contract
@@ -34,7 +34,7 @@ abbrev pub lent : (ℕ × ℕ) × GName → List ℕ → RefT (List ℕ)
 lent at os = record { ptr = at .0; name = at .1; now = os }
 
 -- the call of `step` on the board b met its contract
-pub record Met (b : Board) (c : StepCall) : Type 0 where
+pub record StepContractMet (b : Board) (c : StepCall) : Type 0 where
   pub lifetimes : Lfts 2
   pub event-at : (ℕ × ℕ) × GName
   pub buffer-at : (ℕ × ℕ) × GName
@@ -45,44 +45,44 @@ pub record Met (b : Board) (c : StepCall) : Type 0 where
 -- each call met the contract on the board that the last one returned. `step` is proved, so every run of calls gives a chain.
 unfoldable pub Chain : Board → List StepCall → Type 0
 Chain b [] = Unit {0}
-Chain b (c ∷ cs) = Met b c × Chain (c .returned .board) cs
+Chain b (c ∷ cs) = StepContractMet b c × Chain (c .returned .board) cs
 
 -- ---- what a chain shows
 
 -- the octets that an answer counts, as they lie in the buffer, are the replies
-pub replies-are : {o : Outcome} {before after : List ℕ} {r : Stepped} → Shows o before r after → take (answerCount (r .answer)) after ≡ octets (o .replies)
+pub replies-are : {o : Outcome} {before after : List ℕ} {r : Stepped} → OutcomeOf o before r after → take (answerCount (r .answer)) after ≡ octets (o .replies)
 replies-are {o} {before} s =
     let os = octets (o .replies) in
     ap₂ take (s .count) (s .buffer) ∙ take-at os (drop (length os) before) (length os) refl
 
 -- the call at a place of a chain
-met-at : (b : Board) (pre post : List StepCall) (c : StepCall) → Chain b (pre ++ (c ∷ post)) → Met (lastBoard b pre) c
+met-at : (b : Board) (pre post : List StepCall) (c : StepCall) → Chain b (pre ++ (c ∷ post)) → StepContractMet (lastBoard b pre) c
 unfolding Chain lastBoard
 met-at b [] post c h = h .0
 met-at b (d ∷ pre) post c h = met-at (d .returned .board) pre post c (h .1)
 
-module _ {b : Board} {c : StepCall} (h : Met b c) where
+module _ {b : Board} {c : StepCall} (h : StepContractMet b c) where
   -- the event, with the order of the Drops that the call took
   abbrev played : Event
   played = record { octets = c .event; room = length (c .before); order = h .met .0 }
 
-  shows : Shows (stepped b played) (c .before) (c .returned) (c .after)
-  shows = h .met .1
+  outcome : OutcomeOf (stepped b played) (c .before) (c .returned) (c .after)
+  outcome = h .met .1
 
   number-is : numberOf c ≡ stepped b (eventOf c) .returned
-  number-is = shows .answer ∙ any-order (played .order) NamedFirst b (c .event) (length (c .before)) .0
+  number-is = outcome .answer ∙ any-order (played .order) NamedFirst b (c .event) (length (c .before)) .0
 
   board-is : c .returned .board ≡ stepped b (eventOf c) .board
-  board-is = shows .board ∙ any-order (played .order) NamedFirst b (c .event) (length (c .before)) .1
+  board-is = outcome .board ∙ any-order (played .order) NamedFirst b (c .event) (length (c .before)) .1
 
   error-leaves : T (errorOctets (written c)) → c .returned .board ≡ b
-  error-leaves e = shows .board ∙ unharmed b played (octets-error _ (ap errorOctets (sym (replies-are shows)) ∙ is-true _ e))
+  error-leaves e = outcome .board ∙ unharmed b played (octets-error _ (ap errorOctets (sym (replies-are outcome)) ∙ is-true _ e))
 
   refusal-leaves : eqb (numberOf c) 0 ≡ false → (c .returned .board ≡ b) × (c .after ≡ c .before)
   unfolding octets
   refusal-leaves e =
-      let o = untouched-step b played (ap (λ (n : ℕ). eqb n 0) (sym (shows .answer)) ∙ e) in
-      (shows .board ∙ ap (λ (x : Outcome). x .board) o, shows .buffer ∙ ap (λ (x : Outcome). octets (x .replies) ++ drop (length (octets (x .replies))) (c .before)) o)
+      let o = untouched-step b played (ap (λ (n : ℕ). eqb n 0) (sym (outcome .answer)) ∙ e) in
+      (outcome .board ∙ ap (λ (x : Outcome). x .board) o, outcome .buffer ∙ ap (λ (x : Outcome). octets (x .replies) ++ drop (length (octets (x .replies))) (c .before)) o)
 
 last-board : (b : Board) (calls : List StepCall) → Chain b calls → lastBoard b calls ≡ boardAt b (events calls)
 unfolding Chain lastBoard boardAt
@@ -123,5 +123,5 @@ calls-history s a made f calls h =
     numbers-are : map numberOf calls ≡ returns (fresh s a .board) (events calls)
     numbers-are = returned-numbers (made .board) calls h ∙ ap (λ (m : Made). returns (m .board) (events calls)) (fresh-promise s a made f)
 
-    at : (pre post : List StepCall) (c : StepCall) → calls ≡ pre ++ (c ∷ post) → Met (lastBoard (made .board) pre) c
+    at : (pre post : List StepCall) (c : StepCall) → calls ≡ pre ++ (c ∷ post) → StepContractMet (lastBoard (made .board) pre) c
     at pre post c p = met-at (made .board) pre post c (subst (Chain (made .board)) p h)

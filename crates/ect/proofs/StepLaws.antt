@@ -8,9 +8,9 @@ use lib.ListN.{length}
 use Rattle.octets.specs.Buffers.{frontWritten}
 use Rattle.board.specs.Soundness.{sound}
 use Rattle.board.specs.declared.Board.{Board}
-use Rattle.ect.specs.Contract.{Shows, Steps, StepsTested, answerNumber, answerCount}
+use Rattle.ect.specs.Contract.{OutcomeOf, Steps, StepsTested, answerNumber, answerCount}
 use Rattle.effects.specs.Code.Effects.{EffectOf, acceptanceOf, boardBy}
-use Rattle.effects.proofs.EffectLaws.{acceptance-is, board-is, says}
+use Rattle.effects.proofs.EffectLaws.{acceptance-is, board-is, out-is}
 use Rattle.ect.specs.Code.Answering.{answerTo}
 use Rattle.replies.specs.declared.Out.{Out}
 use Rattle.replies.specs.Code.Writing.{rendered, written}
@@ -43,22 +43,22 @@ module _ (tested : Bool) (order : DropOrder) (b : Board) (os : List ℕ) (room :
 abbrev pub stepped : StepAnswer → Board → Stepped
 stepped a b = record { answer = a; board = b }
 
-shows-refused : (c : Refusal) (b : Board) (before : List ℕ) → Shows (refused (refusalNumber c) b) before (stepped (Refused c) b) before
+outcome-refused : (c : Refusal) (b : Board) (before : List ℕ) → OutcomeOf (refused (refusalNumber c) b) before (stepped (Refused c) b) before
 unfolding octets
-shows-refused c b before = record { answer = refl; count = refl; board = refl; buffer = refl }
+outcome-refused c b before = record { answer = refl; count = refl; board = refl; buffer = refl }
 
-shows-is : {o p : Outcome} {before : List ℕ} {r : Stepped} {after : List ℕ} → o ≡ p → Shows p before r after → Shows o before r after
-shows-is {before = before} {r = r} {after = after} h k = subst⁻¹ (λ (x : Outcome). Shows x before r after) h k
+outcome-is : {o p : Outcome} {before : List ℕ} {r : Stepped} {after : List ℕ} → o ≡ p → OutcomeOf p before r after → OutcomeOf o before r after
+outcome-is {before = before} {r = r} {after = after} h k = subst⁻¹ (λ (x : Outcome). OutcomeOf x before r after) h k
 
 copied : {o : Out} (rs : List ReplyRecord) {b : List ℕ} (before : List ℕ) → o ≡ rendered rs → b ≡ frontWritten (written o) before → b ≡ frontWritten (octets rs) before
 copied rs before s e = e ∙ ap (λ (l : List ℕ). frontWritten l before) (ap written s ∙ rendered-written rs)
 
 written-len : {e : Effect} {b : Board} {d : Decision} → EffectOf e b d → e .out .len ≡ length (octets (replies NamedFirst (b .rows) d))
-written-len {b = b} {d = d} k = ap (λ (o : Out). o .len) (says k) ∙ rendered-len (replies NamedFirst (b .rows) d)
+written-len {b = b} {d = d} k = ap (λ (o : Out). o .len) (out-is k) ∙ rendered-len (replies NamedFirst (b .rows) d)
 
 -- the replies fit their array, whatever the board
 pub fits : {e : Effect} {b : Board} {d : Decision} → length (e .out .octets) ≡ 128 → EffectOf e b d → e .out .len ≤ 128
-fits {b = b} {d = d} l k = rendered-fits (replies NamedFirst (b .rows) d) (says k) l
+fits {b = b} {d = d} l k = rendered-fits (replies NamedFirst (b .rows) d) (out-is k) l
 
 -- the test handed in is the board's own
 pub own-test : (b : Board) (os before after : List ℕ) (r : Stepped) {tested : Bool} → tested ≡ sound b → StepsTested tested b os before r after → Steps b os before r after
@@ -67,11 +67,11 @@ own-test b os before after r e s = subst (λ (x : Bool). StepsTested x b os befo
 
 module _ (b : Board) (os before : List ℕ) where
   pub too-small : (tested : Bool) → length before < 128 → StepsTested tested b os before (stepped (Refused refusal.BufferTooSmall) b) before
-  too-small tested h = (NamedFirst, shows-is (small tested NamedFirst b os (length before) h) (shows-refused refusal.BufferTooSmall b before))
+  too-small tested h = (NamedFirst, outcome-is (small tested NamedFirst b os (length before) h) (outcome-refused refusal.BufferTooSmall b before))
 
   module _ (h : 128 ≤ length before) where
     pub not-sound : {tested : Bool} → tested ≡ false → StepsTested tested b os before (stepped (Refused refusal.UnsoundBoard) b) before
-    not-sound t = rw t (NamedFirst, shows-is (enough false NamedFirst b os (length before) h) (shows-refused refusal.UnsoundBoard b before))
+    not-sound t = rw t (NamedFirst, outcome-is (enough false NamedFirst b os (length before) h) (outcome-refused refusal.UnsoundBoard b before))
 
     answer-by : (d : Decision) (n : ℕ) → answerNumber (answerTo (acceptanceOf d) n) ≡ returnedBy d
     answer-by (Refuse r) n = refl
@@ -89,11 +89,11 @@ module _ (b : Board) (os before : List ℕ) where
         let u = v ∙ ap (λ (x : Acceptance). answerTo x n) (acceptance-is k) in
         rw t (
           NamedFirst,
-          shows-is (enough true NamedFirst b os (length before) h)
+          outcome-is (enough true NamedFirst b os (length before) h)
               (record {
                 answer = ap answerNumber u ∙ answer-by d n;
                 count = ap answerCount u ∙ count-by d n (m ∙ written-len k);
                 board = w ∙ board-is k;
-                buffer = copied (replies NamedFirst (b .rows) d) before (says k) q;
+                buffer = copied (replies NamedFirst (b .rows) d) before (out-is k) q;
               }),
         )

@@ -24,7 +24,7 @@ answerCount (Accepted n) = n
 answerCount (Refused c) = 0
 
 -- what the exchange program gets of an outcome: the answer, the board, and the buffer, which "keeps what lies beyond the octets written"
-pub record Shows (o : Outcome) (before : List ℕ) (r : Stepped) (after : List ℕ) : Type 0 where
+pub record OutcomeOf (o : Outcome) (before : List ℕ) (r : Stepped) (after : List ℕ) : Type 0 where
   pub answer : answerNumber (r .answer) ≡ o .returned
   pub count : answerCount (r .answer) ≡ length (octets (o .replies))
   pub board : r .board ≡ o .board
@@ -32,8 +32,8 @@ pub record Shows (o : Outcome) (before : List ℕ) (r : Stepped) (after : List �
 
 -- the outcome is that of the rules, in one order of a transfer's two Drops: "Only the order of the two drop notices is left open."
 abbrev pub Steps : Board → List ℕ → List ℕ → Stepped → List ℕ → Type 0
-Steps b event before r after = (order : DropOrder) × Shows (step order b event (length before)) before r after
+Steps b event before r after = (order : DropOrder) × OutcomeOf (step order b event (length before)) before r after
 
 -- the same where the answer to the test of soundness is handed in
 abbrev pub StepsTested : Bool → Board → List ℕ → List ℕ → Stepped → List ℕ → Type 0
-StepsTested tested b event before r after = (order : DropOrder) × Shows (stepTested tested order b event (length before)) before r after
+StepsTested tested b event before r after = (order : DropOrder) × OutcomeOf (stepTested tested order b event (length before)) before r after

@@ -9,8 +9,8 @@ use mathlib.Core.Option.{none, Option, some}
 use lib.IntN.{ℤ}
 use Rattle.board.specs.Changes.{withRows, enter, changedRows, full}
 use Rattle.board.specs.Entries.{entry, calls, taken, hasLeg, hasReference, foundParty, foundEntry}
-use Rattle.board.specs.Code.Keys.{surveyOf}
-use Rattle.board.specs.declared.finding.Survey.{Survey}
+use Rattle.board.specs.Code.Keys.{openCheckOf}
+use Rattle.board.specs.declared.finding.OpenCheck.{OpenCheck}
 use Rattle.board.proofs.Searches.{any-leg, any-reference}
 use Rattle.board.specs.Making.{emptyRow}
 use Rattle.board.specs.States.{holdable}
@@ -32,7 +32,7 @@ use Rattle.board.specs.declared.FoundParty.{FoundParty}
 use Rattle.board.specs.declared.FoundParty.the-variants as found-party
 use Rattle.component.specs.Reading.{reading}
 use Rattle.effects.specs.Code.Effects.{Describes, EffectOf, EffectAnywhere, effect, acceptanceOf, changeIn, rowIn, openedRow, boardBy, partyFound, entryFound}
-use Rattle.replies.specs.Code.Writing.{rendered, numberTold, transferRecords}
+use Rattle.replies.specs.Code.Writing.{rendered, transferRecords}
 use Rattle.events.specs.EventRecords.{Request, request}
 use Rattle.events.specs.declared.Refusal.{Refusal}
 use Rattle.octets.specs.Lists.{any}
@@ -51,7 +51,7 @@ use Rattle.effects.specs.declared.Effect.{Effect}
 use Rattle.effects.specs.declared.BoardChange.{BoardChange}
 use Rattle.effects.specs.declared.BoardChange.the-variants.{None, Enter, Apply}
 use Rattle.replies.specs.declared.Out.{Out}
-use Rattle.replies.specs.declared.Told.{Told}
+use Rattle.rules.specs.declared.TellNumber.{TellNumber}
 use Rattle.replies.specs.declared.FarParty.{FarParty}
 use Rattle.rules.specs.declared.Service.{Service}
 
@@ -78,7 +78,7 @@ module _ {e : Effect} {o : Out} (b : Board) (w : Written) where
 
 -- what the code writes of an Answer and of a transfer
 module _ (b : Board) {o : Out} where
-  pub answer-written : (l p : ℕ) {t : Told} → numberTold t ≡ numberAt (b .rows) l → o ≡ rendered (Tell p facility transferredActive (numberTold t) 0 ∷ []) →
+  pub answer-written : (l p : ℕ) {t : TellNumber} → t ≡ numberAt (b .rows) l → o ≡ rendered (Tell p facility transferredActive t 0 ∷ []) →
       o ≡ rendered (answerTold (b .options) l p NamedFirst (numberAt (b .rows)))
   answer-written l p n k = rw n at k
 
@@ -104,8 +104,8 @@ module _ {e : Effect} {b : Board} {d : Decision} (k : EffectOf e b d) where
   unfolding boardAfter
   board-is = ap (λ (x : Effect). boardBy (x .change) (x .row) b) (k .is) ∙ change-board (changeOf d) b
 
-  pub says : e .out ≡ rendered (replies NamedFirst (b .rows) d)
-  says = ap (λ (x : Effect). x .out) (k .is)
+  pub out-is : e .out ≡ rendered (replies NamedFirst (b .rows) d)
+  out-is = ap (λ (x : Effect). x .out) (k .is)
 
 -- ---- the board that is made
 
@@ -185,15 +185,15 @@ module _ {e : Effect} where
 
 -- ---- what is found on the board
 
-module _ (l : ℕ) (r : CallReference) (rows : List Row) {s : Survey} (h : s ≡ surveyOf l r rows) {v : Bool} where
+module _ (l : ℕ) (r : CallReference) (rows : List Row) {s : OpenCheck} (h : s ≡ openCheckOf l r rows) {v : Bool} where
   pub leg-seen : s .leg ≡ v → any (hasLeg l) (taken rows) ≡ v
-  leg-seen e = any-leg l rows ∙ sym (ap (λ (x : Survey). x .leg) h) ∙ e
+  leg-seen e = any-leg l rows ∙ sym (ap (λ (x : OpenCheck). x .leg) h) ∙ e
 
   pub reference-seen : s .reference ≡ v → any (hasReference (r .0)) (taken rows) ≡ v
-  reference-seen e = any-reference r rows ∙ sym (ap (λ (x : Survey). x .reference) h) ∙ e
+  reference-seen e = any-reference r rows ∙ sym (ap (λ (x : OpenCheck). x .reference) h) ∙ e
 
   pub full-seen : not (s .empty) ≡ v → full rows ≡ v
-  full-seen e = sym (ap (λ (x : Survey). not (x .empty)) h) ∙ e
+  full-seen e = sym (ap (λ (x : OpenCheck). not (x .empty)) h) ∙ e
 
 module _ {e : Effect} {b : Board} where
   pub by-party : (d : Option Party → Decision) (o : Option Party) {f : FoundParty} → f ≡ foundParty o → EffectOf e b (d (partyFound f)) → EffectOf e b (d o)

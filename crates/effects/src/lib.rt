@@ -18,11 +18,11 @@ use octets::LinkId;
 use opening::digits_of;
 use opening::open;
 use replies::Out;
-use replies::Told;
 use replies::nothing;
 use replies::number_as_told;
 use row_changes::change;
 use row_changes::open_row;
+use rules::TellNumber;
 use serving::parties::entry_at;
 use serving::parties::named;
 ghost use mathlib.Core.Path.{_≡_};
@@ -30,7 +30,6 @@ ghost use Rattle.board.specs.Making.{emptyRow};
 ghost use Rattle.rules.specs.Checks.{Refuse, assignedBy};
 ghost use Rattle.rules.specs.Replies.{numberAt};
 ghost use Rattle.rules.specs.Step.{decision, candidateBy};
-ghost use Rattle.replies.specs.Code.Writing.{numberTold};
 ghost use Rattle.effects.specs.Code.Effects.{EffectOf, EffectAnywhere, effect, boardBy};
 
 mod call_states;
@@ -83,8 +82,8 @@ fn refuse(refusal: Refusal) -> Effect
 }
 
 // The number of the party at a leg, as it is told.
-fn number_at(board: Board, leg: u32) -> Told
-    ensures { λ r. ⌜ numberTold r ≡ numberAt (board .rows) leg ⌝ }
+fn number_at(board: Board, leg: u32) -> TellNumber
+    ensures { λ r. ⌜ r ≡ numberAt (board .rows) leg ⌝ }
 {
     let row = find_row(board, Key::Leg(leg));
     let number = row.number;

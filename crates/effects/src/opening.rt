@@ -12,7 +12,7 @@ use board::OptionalLinkId;
 use board::PartyNumber;
 use board::Row;
 use board::Standing;
-use board::finding::look_over;
+use board::finding::check_open;
 use events::Refusal;
 use octets::CallReference;
 use replies::nothing;
@@ -64,14 +64,14 @@ fn opened_row(r: CallReference, leg: u32, d: Direction, number: PartyNumber) -> 
 pub fn open(board: Board, r: CallReference, l: u32, d: Direction, number: PartyNumber) -> Effect
     ensures { λ e. ⌜ EffectOf e board (openOn board (r .0) l d number) ⌝ }
 {
-    let survey = look_over(board, l, r);
-    if survey.leg {
+    let check = check_open(board, l, r);
+    if check.leg {
         return refuse(Refusal::LegOnBoard);
     }
-    if survey.reference {
+    if check.reference {
         return refuse(Refusal::ReferenceInUse);
     }
-    if !survey.empty {
+    if !check.empty {
         return refuse(Refusal::NoEmptyRow);
     }
     Effect {

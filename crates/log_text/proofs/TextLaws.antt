@@ -11,7 +11,7 @@ use lib.Dec.{leb}
 use lib.ListN.{length, getD, take, drop, set, length-append, length-take, length-drop, length-set, take-append-drop}
 use lib.Seq.{take-suc, set-split, take-at, drop-at, drop-drop, length-take-le}
 use borrow.Author.Tests.{lt-ltb, le-ltb, le-leb, lt-leb}
-use Rattle.log_text.specs.Lines.{digit, decimalIn, decimal, hexOctet, hexOctets, octetsText, space, field, recordLine, endLine}
+use Rattle.log_text.specs.Lines.{digit, decimalIn, decimal, hexOctet, hexOctets, octetsText, space, spaced, recordLine, endLine}
 use Rattle.octets.specs.Buffers.{writtenAt}
 use Rattle.log_text.specs.Writing.{Fitted, Put}
 
@@ -145,8 +145,8 @@ text-none (o ∷ s) h = absurd (omega arith)
 
 -- ---- lines
 
-pub field-length : (n : ℕ) → length (field n) ≡ length (decimal n) + 1
-field-length n = length-append (decimal n) (space ∷ [])
+pub spaced-length : (n : ℕ) → length (spaced n) ≡ length (decimal n) + 1
+spaced-length n = length-append (decimal n) (space ∷ [])
 
 pub line-length : (number kind returned : ℕ) (s : List ℕ)
     → length (recordLine number kind returned s) ≡ length (decimal number) + length (decimal kind) + length (decimal returned) + 4 + length (octetsText s)

@@ -41,18 +41,18 @@ octetsText [] = 45 ∷ []
 octetsText (o ∷ os) = hexOctets (o ∷ os)
 
 -- a number and the space after it
-abbrev pub field : ℕ → List ℕ
-field n = decimal n ++ (space ∷ [])
+abbrev pub spaced : ℕ → List ℕ
+spaced n = decimal n ++ (space ∷ [])
 
 -- "per record `number kind returned octets`"
 abbrev pub recordLine : ℕ → ℕ → ℕ → List ℕ → List ℕ
 recordLine number kind returned octets =
-    field number ++ (field kind ++ (field returned ++ (octetsText octets ++ (lineFeed ∷ []))))
+    spaced number ++ (spaced kind ++ (spaced returned ++ (octetsText octets ++ (lineFeed ∷ []))))
 
 -- "last, always, `end legs pairs links`"
 abbrev pub endLine : ℕ → ℕ → ℕ → List ℕ
 endLine legs pairs links =
-    (101 ∷ 110 ∷ 100 ∷ space ∷ []) ++ (field legs ++ (field pairs ++ (decimal links ++ (lineFeed ∷ []))))
+    (101 ∷ 110 ∷ 100 ∷ space ∷ []) ++ (spaced legs ++ (spaced pairs ++ (decimal links ++ (lineFeed ∷ []))))
 
 -- "`ect 1`"
 abbrev pub firstLine : List ℕ

@@ -6,7 +6,7 @@ ghost use mathlib.Core.List.{List, [], _∷_};
 ghost use Prim.Native.Nat.{_+_, _/_, _≤_, _<_};
 ghost use lib.Dec.{leb};
 ghost use lib.ListN.{length};
-ghost use Rattle.log_text.specs.Lines.{decimal, hexDigit, hexOctet, octetsText, field};
+ghost use Rattle.log_text.specs.Lines.{decimal, hexDigit, hexOctet, octetsText, spaced};
 ghost use Rattle.log_text.specs.Lines.{recordLine, endLine, firstLine, badOptionsLine};
 ghost use Rattle.log_text.specs.Writing.{Fitted, Put};
 
@@ -48,9 +48,9 @@ fn put_decimal(n: u64, at: usize, out: &mut [u8]) -> usize
     put(48 + ((n % 10) as u8), last, out)
 }
 
-fn put_field(n: u64, at: usize, out: &mut [u8]) -> usize
+fn put_spaced(n: u64, at: usize, out: &mut [u8]) -> usize
     requires { ⌜ at + length (decimal n) + 1 ≤ length (now out) ⌝ }
-    ensures { λ r. ⌜ Put (field n) (now (out .entry)) (now (out .exit)) at r ⌝ }
+    ensures { λ r. ⌜ Put (spaced n) (now (out .entry)) (now (out .exit)) at r ⌝ }
 {
     let end = put_decimal(n, at, out);
     put(SPACE, end, out)
@@ -133,9 +133,9 @@ pub fn record_line(number: u64, kind: u8, returned: u8, octets: &[u8], out: &mut
         (now (out .entry)) (now (out .exit)) r ⌝ }
 {
     if record_fits(number, kind, returned, octets, out.len()) {
-        let after_number = put_field(number, 0, out);
-        let after_kind = put_field(kind as u64, after_number, out);
-        let after_returned = put_field(returned as u64, after_kind, out);
+        let after_number = put_spaced(number, 0, out);
+        let after_kind = put_spaced(kind as u64, after_number, out);
+        let after_returned = put_spaced(returned as u64, after_kind, out);
         let after_octets = put_octets(octets, after_returned, out);
         return put(LINE_FEED, after_octets, out);
     }
@@ -151,8 +151,8 @@ pub fn end_line(legs: u64, pairs: u64, links: u64, out: &mut [u8]) -> usize
         return 0;
     }
     let after_word = put_text(b"end ", 0, out);
-    let after_legs = put_field(legs, after_word, out);
-    let after_pairs = put_field(pairs, after_legs, out);
+    let after_legs = put_spaced(legs, after_word, out);
+    let after_pairs = put_spaced(pairs, after_legs, out);
     let after_links = put_decimal(links, after_pairs, out);
     put(LINE_FEED, after_links, out)
 }

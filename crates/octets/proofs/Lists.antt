@@ -9,7 +9,7 @@ use mathlib.Core.List.{_∷_, List, List·Memᴰ, List·Memᴰ·head, List·Mem�
 use mathlib.Core.Option.{none, some, Option}
 use lib.Dec.{T, eqb, eqb→eq, eqb-refl}
 use lib.ListN.{length}
-use Rattle.octets.specs.Lists.{any, all, consIf, keep, find, orElse, consOpt, only, pick, distinct}
+use Rattle.octets.specs.Lists.{any, all, consIf, filter, find, orElse, consOpt, only, filterMap, distinct}
 use Rattle.octets.specs.Tests.{has}
 
 -- ---- Bools
@@ -145,21 +145,21 @@ module _ {A : Type 0} where
   consIf-later true x m = List·Memᴰ·tail m
   consIf-later false x m = m
 
-  pub keep-mem : (p : A → Bool) (l : List A) {y : A} → List·Memᴰ y (keep p l) → List·Memᴰ y l × (p y ≡ true)
-  keep-mem p [] m = elim m [ ]
-  keep-mem p (x ∷ l) {y} m = go (consIf-mem (p x) m) (keep-mem p l {y = y})
+  pub filter-mem : (p : A → Bool) (l : List A) {y : A} → List·Memᴰ y (filter p l) → List·Memᴰ y l × (p y ≡ true)
+  filter-mem p [] m = elim m [ ]
+  filter-mem p (x ∷ l) {y} m = go (consIf-mem (p x) m) (filter-mem p l {y = y})
     where
-      go : ((p x ≡ true) × (y ≡ x)) ⊎ List·Memᴰ y (keep p l) → (List·Memᴰ y (keep p l) → List·Memᴰ y l × (p y ≡ true)) → List·Memᴰ y (x ∷ l) × (p y ≡ true)
+      go : ((p x ≡ true) × (y ≡ x)) ⊎ List·Memᴰ y (filter p l) → (List·Memᴰ y (filter p l) → List·Memᴰ y l × (p y ≡ true)) → List·Memᴰ y (x ∷ l) × (p y ≡ true)
       go (inl h) f = (List·Memᴰ·head (h .1), ap p (h .1) ∙ h .0)
       go (inr h) f = let r = f h in (List·Memᴰ·tail (r .0), r .1)
 
-  pub mem-keep : (p : A → Bool) {y : A} {l : List A} → List·Memᴰ y l → p y ≡ true → List·Memᴰ y (keep p l)
-  mem-keep p {y} (List·Memᴰ·head {x = x} {xs = l} e) t = go (p x) (ap p (sym e) ∙ t)
+  pub mem-filter : (p : A → Bool) {y : A} {l : List A} → List·Memᴰ y l → p y ≡ true → List·Memᴰ y (filter p l)
+  mem-filter p {y} (List·Memᴰ·head {x = x} {xs = l} e) t = go (p x) (ap p (sym e) ∙ t)
     where
-      go : (b : Bool) → b ≡ true → List·Memᴰ y (consIf b x (keep p l))
+      go : (b : Bool) → b ≡ true → List·Memᴰ y (consIf b x (filter p l))
       go true u = List·Memᴰ·head e
       go false u = absurd (true-not-false u refl)
-  mem-keep p (List·Memᴰ·tail {x = x} m) t = consIf-later (p x) x (mem-keep p m t)
+  mem-filter p (List·Memᴰ·tail {x = x} m) t = consIf-later (p x) x (mem-filter p m t)
 
   pub find-mem : (p : A → Bool) (l : List A) {y : A} → find p l ≡ some y → List·Memᴰ y l × (p y ≡ true)
   find-mem p [] {y} e = let z : _≡_ {A = ℕ} 0 1 = cc in absurd (omega arith)
@@ -178,17 +178,17 @@ module _ {A : Type 0} where
       go false e f = f e
 
   -- an element for which the test fails in all of the list is kept nowhere
-  pub keep-none : (p : A → Bool) (l : List A) → any p l ≡ false → keep p l ≡ []
-  keep-none p [] t = refl
-  keep-none p (x ∷ l) t = go (p x) (or-false (p x) (any p l) t .0) (keep-none p l (or-false (p x) (any p l) t .1))
+  pub filter-none : (p : A → Bool) (l : List A) → any p l ≡ false → filter p l ≡ []
+  filter-none p [] t = refl
+  filter-none p (x ∷ l) t = go (p x) (or-false (p x) (any p l) t .0) (filter-none p l (or-false (p x) (any p l) t .1))
     where
-      go : (b : Bool) → b ≡ false → keep p l ≡ [] → consIf b x (keep p l) ≡ []
+      go : (b : Bool) → b ≡ false → filter p l ≡ [] → consIf b x (filter p l) ≡ []
       go true u e = absurd (true-not-false refl u)
       go false u e = e
 
-  pub keep-ext : (p q : A → Bool) (l : List A) → ((x : A) → p x ≡ q x) → keep p l ≡ keep q l
-  keep-ext p q [] f = refl
-  keep-ext p q (x ∷ l) f = ap₂ (λ (b : Bool) (r : List A). consIf b x r) (f x) (keep-ext p q l f)
+  pub filter-ext : (p q : A → Bool) (l : List A) → ((x : A) → p x ≡ q x) → filter p l ≡ filter q l
+  filter-ext p q [] f = refl
+  filter-ext p q (x ∷ l) f = ap₂ (λ (b : Bool) (r : List A). consIf b x r) (f x) (filter-ext p q l f)
 
   pub consIf-le : (b : Bool) (x : A) (l : List A) (n : ℕ) → length l ≤ n → length (consIf b x l) ≤ suc n
   consIf-le true x l n h = suc-le-suc h
@@ -198,12 +198,12 @@ module _ {A : Type 0} where
   head-of [] = none
   head-of (x ∷ l) = some x
 
-  pub find-keep : (p : A → Bool) (l : List A) → find p l ≡ head-of (keep p l)
+  pub find-filter : (p : A → Bool) (l : List A) → find p l ≡ head-of (filter p l)
   unfolding head-of
-  find-keep p [] = refl
-  find-keep p (x ∷ l) = go (p x) (find-keep p l)
+  find-filter p [] = refl
+  find-filter p (x ∷ l) = go (p x) (find-filter p l)
     where
-      go : (b : Bool) → find p l ≡ head-of (keep p l) → orElse b x (find p l) ≡ head-of (consIf b x (keep p l))
+      go : (b : Bool) → find p l ≡ head-of (filter p l) → orElse b x (find p l) ≡ head-of (consIf b x (filter p l))
       go true e = refl
       go false e = e
 
@@ -275,11 +275,11 @@ module _ {A : Type 0} where
   consIf-swap false true x y l = p-refl (y ∷ l)
   consIf-swap false false x y l = p-refl l
 
-  pub keep-perm : (p : A → Bool) {l m : List A} → Perm l m → Perm (keep p l) (keep p m)
-  keep-perm p p-nil = p-nil
-  keep-perm p (p-skip {x = x} h) = consIf-perm (p x) x (keep-perm p h)
-  keep-perm p (p-swap {x = x} {y = y} {l = l}) = consIf-swap (p x) (p y) x y (keep p l)
-  keep-perm p (p-trans h k) = p-trans (keep-perm p h) (keep-perm p k)
+  pub filter-perm : (p : A → Bool) {l m : List A} → Perm l m → Perm (filter p l) (filter p m)
+  filter-perm p p-nil = p-nil
+  filter-perm p (p-skip {x = x} h) = consIf-perm (p x) x (filter-perm p h)
+  filter-perm p (p-swap {x = x} {y = y} {l = l}) = consIf-swap (p x) (p y) x y (filter p l)
+  filter-perm p (p-trans h k) = p-trans (filter-perm p h) (filter-perm p k)
 
   consOpt-perm : (o : Option A) {l m : List A} → Perm l m → Perm (consOpt o l) (consOpt o m)
   consOpt-perm none p = p
@@ -297,8 +297,8 @@ module _ {A : Type 0} where
   small-perm p-swap h = absurd (not-suc-le-zero (le-of-suc-le-suc h))
   small-perm (p-trans p q) h = small-perm p h ∙ small-perm q (subst (λ (n : ℕ). n ≤ 1) (length-perm p) h)
 
-  pub find-perm : (p : A → Bool) {l m : List A} → Perm l m → length (keep p l) ≤ 1 → find p l ≡ find p m
-  find-perm p {l} {m} h k = find-keep p l ∙ ap head-of (small-perm (keep-perm p h) k) ∙ sym (find-keep p m)
+  pub find-perm : (p : A → Bool) {l m : List A} → Perm l m → length (filter p l) ≤ 1 → find p l ≡ find p m
+  find-perm p {l} {m} h k = find-filter p l ∙ ap head-of (small-perm (filter-perm p h) k) ∙ sym (find-filter p m)
 
   only-skip : (x : A) (l m : List A) → length l ≡ length m → only (x ∷ l) ≡ only (x ∷ m)
   only-skip x [] [] e = refl
@@ -313,11 +313,11 @@ module _ {A : Type 0} where
   only-perm (p-trans p q) = only-perm p ∙ only-perm q
 
 module _ {A B : Type 0} where
-  pub pick-perm : (f : A → Option B) {l m : List A} → Perm l m → Perm (pick f l) (pick f m)
-  pick-perm f p-nil = p-nil
-  pick-perm f (p-skip {x = x} h) = consOpt-perm (f x) (pick-perm f h)
-  pick-perm f (p-swap {x = x} {y = y} {l = l}) = consOpt-swap (f x) (f y) (pick f l)
-  pick-perm f (p-trans h k) = p-trans (pick-perm f h) (pick-perm f k)
+  pub filterMap-perm : (f : A → Option B) {l m : List A} → Perm l m → Perm (filterMap f l) (filterMap f m)
+  filterMap-perm f p-nil = p-nil
+  filterMap-perm f (p-skip {x = x} h) = consOpt-perm (f x) (filterMap-perm f h)
+  filterMap-perm f (p-swap {x = x} {y = y} {l = l}) = consOpt-swap (f x) (f y) (filterMap f l)
+  filterMap-perm f (p-trans h k) = p-trans (filterMap-perm f h) (filterMap-perm f k)
 
   pub map-perm : (f : A → B) {l m : List A} → Perm l m → Perm (map f l) (map f m)
   map-perm f p-nil = p-nil
@@ -345,16 +345,16 @@ module _ {A B : Type 0} where
       go (List·Memᴰ·head e) g = (x, List·Memᴰ·head refl, e)
       go (List·Memᴰ·tail k) g = let r = g k in (r .0, List·Memᴰ·tail (r .1), r .2)
 
-  pub length-keep-map : (p : B → Bool) (q : A → Bool) (f : A → B) (l : List A) → ((x : A) → p (f x) ≡ q x) → length (keep p (map f l)) ≡ length (keep q l)
-  length-keep-map p q f [] h = refl
-  length-keep-map p q f (x ∷ l) h = go (p (f x)) (q x) (h x) (length-keep-map p q f l h)
+  pub length-filter-map : (p : B → Bool) (q : A → Bool) (f : A → B) (l : List A) → ((x : A) → p (f x) ≡ q x) → length (filter p (map f l)) ≡ length (filter q l)
+  length-filter-map p q f [] h = refl
+  length-filter-map p q f (x ∷ l) h = go (p (f x)) (q x) (h x) (length-filter-map p q f l h)
     where
-      same : (b : Bool) → length (keep p (map f l)) ≡ length (keep q l) → length (consIf b (f x) (keep p (map f l))) ≡ length (consIf b x (keep q l))
+      same : (b : Bool) → length (filter p (map f l)) ≡ length (filter q l) → length (consIf b (f x) (filter p (map f l))) ≡ length (consIf b x (filter q l))
       same true e = ap suc e
       same false e = e
 
-      go : (b c : Bool) → b ≡ c → length (keep p (map f l)) ≡ length (keep q l) → length (consIf b (f x) (keep p (map f l))) ≡ length (consIf c x (keep q l))
-      go b c h e = subst (λ (d : Bool). length (consIf b (f x) (keep p (map f l))) ≡ length (consIf d x (keep q l))) h (same b e)
+      go : (b c : Bool) → b ≡ c → length (filter p (map f l)) ≡ length (filter q l) → length (consIf b (f x) (filter p (map f l))) ≡ length (consIf c x (filter q l))
+      go b c h e = subst (λ (d : Bool). length (consIf b (f x) (filter p (map f l))) ≡ length (consIf d x (filter q l))) h (same b e)
 
 module _ {B : Type 0} where
   -- ---- picks
@@ -369,39 +369,39 @@ module _ {B : Type 0} where
   consOpt-later (some z) m = List·Memᴰ·tail m
 
 module _ {A B : Type 0} where
-  pub pick-mem : (f : A → Option B) (l : List A) {y : B} → List·Memᴰ y (pick f l) → (x : A) × List·Memᴰ x l × (f x ≡ some y)
-  pick-mem f [] m = elim m [ ]
-  pick-mem f (x ∷ l) {y} m = go (consOpt-mem (f x) m) (pick-mem f l {y = y})
+  pub filterMap-mem : (f : A → Option B) (l : List A) {y : B} → List·Memᴰ y (filterMap f l) → (x : A) × List·Memᴰ x l × (f x ≡ some y)
+  filterMap-mem f [] m = elim m [ ]
+  filterMap-mem f (x ∷ l) {y} m = go (consOpt-mem (f x) m) (filterMap-mem f l {y = y})
     where
-      go : (f x ≡ some y) ⊎ List·Memᴰ y (pick f l) → (List·Memᴰ y (pick f l) → (z : A) × List·Memᴰ z l × (f z ≡ some y)) → (z : A) × List·Memᴰ z (x ∷ l) × (f z ≡ some y)
+      go : (f x ≡ some y) ⊎ List·Memᴰ y (filterMap f l) → (List·Memᴰ y (filterMap f l) → (z : A) × List·Memᴰ z l × (f z ≡ some y)) → (z : A) × List·Memᴰ z (x ∷ l) × (f z ≡ some y)
       go (inl e) g = (x, List·Memᴰ·head refl, e)
       go (inr k) g = let r = g k in (r .0, List·Memᴰ·tail (r .1), r .2)
 
-  pub mem-pick : (f : A → Option B) {x : A} {l : List A} {y : B} → List·Memᴰ x l → f x ≡ some y → List·Memᴰ y (pick f l)
-  mem-pick f {y} (List·Memᴰ·head {x = x} {xs = l} e) h = go (f x) (ap f (sym e) ∙ h)
+  pub mem-filterMap : (f : A → Option B) {x : A} {l : List A} {y : B} → List·Memᴰ x l → f x ≡ some y → List·Memᴰ y (filterMap f l)
+  mem-filterMap f {y} (List·Memᴰ·head {x = x} {xs = l} e) h = go (f x) (ap f (sym e) ∙ h)
     where
-      go : (o : Option B) → o ≡ some y → List·Memᴰ y (consOpt o (pick f l))
+      go : (o : Option B) → o ≡ some y → List·Memᴰ y (consOpt o (filterMap f l))
       go none u = let z : _≡_ {A = ℕ} 0 1 = cc in absurd (omega arith)
       go (some w) u = let d : w ≡ y = cc in List·Memᴰ·head (sym d)
-  mem-pick f (List·Memᴰ·tail {x = x} m) h = consOpt-later (f x) (mem-pick f m h)
+  mem-filterMap f (List·Memᴰ·tail {x = x} m) h = consOpt-later (f x) (mem-filterMap f m h)
 
   -- what is kept of a pick comes from what is kept of the list
-  pub keep-pick-le : (p : B → Bool) (f : A → Option B) (q : A → Bool) (l : List A) → ((x : A) → has p (f x) ≡ q x) →
-      length (keep p (pick f l)) ≤ length (keep q l)
-  keep-pick-le p f q [] h = zero-le
-  keep-pick-le p f q (x ∷ l) h = go (f x) (q x) (h x) (keep-pick-le p f q l h)
+  pub filter-filterMap-le : (p : B → Bool) (f : A → Option B) (q : A → Bool) (l : List A) → ((x : A) → has p (f x) ≡ q x) →
+      length (filter p (filterMap f l)) ≤ length (filter q l)
+  filter-filterMap-le p f q [] h = zero-le
+  filter-filterMap-le p f q (x ∷ l) h = go (f x) (q x) (h x) (filter-filterMap-le p f q l h)
     where
-      put : (b c : Bool) (y : B) → b ≡ c → length (keep p (pick f l)) ≤ length (keep q l) → length (consIf b y (keep p (pick f l))) ≤ length (consIf c x (keep q l))
+      put : (b c : Bool) (y : B) → b ≡ c → length (filter p (filterMap f l)) ≤ length (filter q l) → length (consIf b y (filter p (filterMap f l))) ≤ length (consIf c x (filter q l))
       put true true y e k = suc-le-suc k
       put true false y e k = absurd (true-not-false refl e)
       put false true y e k = le-step k
       put false false y e k = k
 
-      skip : (c : Bool) → length (keep p (pick f l)) ≤ length (keep q l) → length (keep p (pick f l)) ≤ length (consIf c x (keep q l))
+      skip : (c : Bool) → length (filter p (filterMap f l)) ≤ length (filter q l) → length (filter p (filterMap f l)) ≤ length (consIf c x (filter q l))
       skip true k = le-step k
       skip false k = k
 
-      go : (o : Option B) (c : Bool) → has p o ≡ c → length (keep p (pick f l)) ≤ length (keep q l) → length (keep p (consOpt o (pick f l))) ≤ length (consIf c x (keep q l))
+      go : (o : Option B) (c : Bool) → has p o ≡ c → length (filter p (filterMap f l)) ≤ length (filter q l) → length (filter p (consOpt o (filterMap f l))) ≤ length (consIf c x (filter q l))
       go none c e k = skip c k
       go (some y) c e k = put (p y) c y e k
 
@@ -429,34 +429,34 @@ module _ {A : Type 0} where
   only-mem (y ∷ []) {x} e = let d : y ≡ x = cc in List·Memᴰ·head (sym d)
   only-mem (y ∷ (z ∷ l)) e = let z : _≡_ {A = ℕ} 0 1 = cc in absurd (omega arith)
 
-  pub keep-keep-le : (p q : A → Bool) (l : List A) → length (keep p (keep q l)) ≤ length (keep p l)
-  keep-keep-le p q [] = zero-le
-  keep-keep-le p q (x ∷ l) = go (q x) (keep-keep-le p q l)
+  pub filter-filter-le : (p q : A → Bool) (l : List A) → length (filter p (filter q l)) ≤ length (filter p l)
+  filter-filter-le p q [] = zero-le
+  filter-filter-le p q (x ∷ l) = go (q x) (filter-filter-le p q l)
     where
-      both-le : (b : Bool) → length (keep p (keep q l)) ≤ length (keep p l) → length (consIf b x (keep p (keep q l))) ≤ length (consIf b x (keep p l))
+      both-le : (b : Bool) → length (filter p (filter q l)) ≤ length (filter p l) → length (consIf b x (filter p (filter q l))) ≤ length (consIf b x (filter p l))
       both-le true k = suc-le-suc k
       both-le false k = k
 
-      one-le : (b : Bool) → length (keep p (keep q l)) ≤ length (keep p l) → length (keep p (keep q l)) ≤ length (consIf b x (keep p l))
+      one-le : (b : Bool) → length (filter p (filter q l)) ≤ length (filter p l) → length (filter p (filter q l)) ≤ length (consIf b x (filter p l))
       one-le true k = le-step k
       one-le false k = k
 
-      go : (c : Bool) → length (keep p (keep q l)) ≤ length (keep p l) → length (keep p (consIf c x (keep q l))) ≤ length (consIf (p x) x (keep p l))
+      go : (c : Bool) → length (filter p (filter q l)) ≤ length (filter p l) → length (filter p (consIf c x (filter q l))) ≤ length (consIf (p x) x (filter p l))
       go true k = both-le (p x) k
       go false k = one-le (p x) k
 
 module _ {A B : Type 0} where
   -- what is kept of a map was kept by the one test or by the other
-  pub keep-map-le : (p : B → Bool) (q w : A → Bool) (f : A → B) (l : List A) → ((x : A) → p (f x) ≡ true → (q x || w x) ≡ true) →
-      length (keep p (map f l)) ≤ length (keep q l) + length (keep w l)
-  keep-map-le p q w f [] h = zero-le
-  keep-map-le p q w f (x ∷ l) h = go (p (f x)) (q x) (w x) (h x) (keep-map-le p q w f l h)
+  pub filter-map-le : (p : B → Bool) (q w : A → Bool) (f : A → B) (l : List A) → ((x : A) → p (f x) ≡ true → (q x || w x) ≡ true) →
+      length (filter p (map f l)) ≤ length (filter q l) + length (filter w l)
+  filter-map-le p q w f [] h = zero-le
+  filter-map-le p q w f (x ∷ l) h = go (p (f x)) (q x) (w x) (h x) (filter-map-le p q w f l h)
     where
       n : ℕ
-      n = length (keep p (map f l))
+      n = length (filter p (map f l))
 
-      go : (a b c : Bool) → (a ≡ true → (b || c) ≡ true) → length (keep p (map f l)) ≤ length (keep q l) + length (keep w l) →
-          length (consIf a (f x) (keep p (map f l))) ≤ length (consIf b x (keep q l)) + length (consIf c x (keep w l))
+      go : (a b c : Bool) → (a ≡ true → (b || c) ≡ true) → length (filter p (map f l)) ≤ length (filter q l) + length (filter w l) →
+          length (consIf a (f x) (filter p (map f l))) ≤ length (consIf b x (filter q l)) + length (consIf c x (filter w l))
       go true true true k e = omega arith
       go true true false k e = omega arith
       go true false true k e = omega arith
@@ -502,27 +502,27 @@ module _ {A : Type 0} where
               by (inl t) = absurd (true-not-false (any-of (same e) (r .1) (w e (r .0) (ap (same (g e)) (sym (r .2)) ∙ t))) apart)
               by (inr t) = t
 
-  pub distinct-keep : (same : A → A → Bool) (p : A → Bool) (es : List A) → distinct same es ≡ true → distinct same (keep p es) ≡ true
-  distinct-keep same p [] h = refl
-  distinct-keep same p (e ∷ es) h = go (p e) (distinct-keep same p es (right (not (any (same e) es)) _ h))
+  pub distinct-filter : (same : A → A → Bool) (p : A → Bool) (es : List A) → distinct same es ≡ true → distinct same (filter p es) ≡ true
+  distinct-filter same p [] h = refl
+  distinct-filter same p (e ∷ es) h = go (p e) (distinct-filter same p es (right (not (any (same e) es)) _ h))
     where
-      apart : any (same e) (keep p es) ≡ false
-      apart = none-by (same e) (keep p es) (λ y m. none-of (same e) (keep-mem p es m .0) (is-not (left (not (any (same e) es)) _ h)))
+      apart : any (same e) (filter p es) ≡ false
+      apart = none-by (same e) (filter p es) (λ y m. none-of (same e) (filter-mem p es m .0) (is-not (left (not (any (same e) es)) _ h)))
 
-      go : (b : Bool) → distinct same (keep p es) ≡ true → distinct same (consIf b e (keep p es)) ≡ true
+      go : (b : Bool) → distinct same (filter p es) ≡ true → distinct same (consIf b e (filter p es)) ≡ true
       go true k = both (ap not apart) k
       go false k = k
 
   pub distinct-one : (same : A → A → Bool) (p : A → Bool) → ((e f : A) → p e ≡ true → p f ≡ true → same e f ≡ true) →
-      (es : List A) → distinct same es ≡ true → length (keep p es) ≤ 1
+      (es : List A) → distinct same es ≡ true → length (filter p es) ≤ 1
   distinct-one same p w [] h = zero-le
   distinct-one same p w (e ∷ es) h = go (p e) refl (distinct-one same p w es (right (not (any (same e) es)) _ h))
     where
       apart : any (same e) es ≡ false
       apart = is-not (left (not (any (same e) es)) _ h)
 
-      others : p e ≡ true → keep p es ≡ []
-      others t = keep-none p es (none-by p es away)
+      others : p e ≡ true → filter p es ≡ []
+      others t = filter-none p es (none-by p es away)
         where
           away : (f : A) → List·Memᴰ f es → p f ≡ false
           away f m = by (test (p f))
@@ -531,6 +531,6 @@ module _ {A : Type 0} where
               by (inl u) = absurd (true-not-false (any-of (same e) m (w e f t u)) apart)
               by (inr u) = u
 
-      go : (b : Bool) → p e ≡ b → length (keep p es) ≤ 1 → length (consIf b e (keep p es)) ≤ 1
+      go : (b : Bool) → p e ≡ b → length (filter p es) ≤ 1 → length (consIf b e (filter p es)) ≤ 1
       go true t k = subst⁻¹ (λ (l : List A). length (e ∷ l) ≤ 1) (others t) (le-refl 1)
       go false t k = k

@@ -8,7 +8,7 @@ use mathlib.Core.List.{List, [], _∷_, _++_, List·Memᴰ, List·Memᴰ·head, 
 use mathlib.Core.Option.{Option, none, some}
 use lib.ListN.{length, getD, take, drop, drop-of-length-le}
 use lib.Seq.{drop-cons, length-take-le, getD-take}
-use Rattle.octets.specs.Lists.{any, all, consIf, keep, distinct, consOpt, pick}
+use Rattle.octets.specs.Lists.{any, all, consIf, filter, distinct, consOpt, filterMap}
 use Rattle.octets.specs.Tests.{has, noneOr, hasBoth, bit}
 use Rattle.octets.proofs.Lists.{any-ext}
 
@@ -76,7 +76,7 @@ module _ {A : Type 0} {ys : List A} {i : ℕ} (s : Past ys i) where
 -- n of the first i elements pass p
 pub record Counting {A : Type 0} (p : A → Bool) (ys : List A) (i n : ℕ) : Type 0 where
   pub within : n ≤ i
-  pub total : n + length (keep p (drop i ys)) ≡ length (keep p ys)
+  pub total : n + length (filter p (drop i ys)) ≡ length (filter p ys)
 
 bit-le : (b : Bool) → bit b ≤ 1
 bit-le true = omega arith
@@ -93,30 +93,30 @@ module _ {A : Type 0} where
   pub count-step : {p : A → Bool} {ys : List A} {i n : ℕ} {x : A} → Step ys i x → (k : ℕ) → k ≡ bit (p x) → Counting p ys i n → Counting p ys (i + 1) (n + k)
   count-step {p} {ys} {i} {n} {x} s k e t =
       let l = bit-le (p x) in
-      let c : length (keep p (drop i ys)) ≡ bit (p x) + length (keep p (drop (i + 1) ys)) = rw (s .split) (length-consIf (p x) x (keep p (drop (i + 1) ys))) in
+      let c : length (filter p (drop i ys)) ≡ bit (p x) + length (filter p (drop (i + 1) ys)) = rw (s .split) (length-consIf (p x) x (filter p (drop (i + 1) ys))) in
       record { within = omega (arith, t .within); total = omega (arith, t .total) }
 
-  pub count-end : {p : A → Bool} {ys : List A} {i n : ℕ} → Past ys i → Counting p ys i n → n ≡ length (keep p ys)
+  pub count-end : {p : A → Bool} {ys : List A} {i n : ℕ} → Past ys i → Counting p ys i n → n ≡ length (filter p ys)
   count-end {p} {ys} {i} {n} s t =
-      let c : length (keep p (drop i ys)) ≡ 0 = rw (s .rest) in
+      let c : length (filter p (drop i ys)) ≡ 0 = rw (s .rest) in
       omega (arith, t .total)
 
 -- ---- tests of what is picked
 
 module _ {A B : Type 0} (f : A → Option B) where
-  pub all-pick : (p : B → Bool) (l : List A) → all p (pick f l) ≡ all (λ (x : A). noneOr p (f x)) l
-  all-pick p [] = refl
-  all-pick p (x ∷ l) = go (f x) (all-pick p l)
+  pub all-filterMap : (p : B → Bool) (l : List A) → all p (filterMap f l) ≡ all (λ (x : A). noneOr p (f x)) l
+  all-filterMap p [] = refl
+  all-filterMap p (x ∷ l) = go (f x) (all-filterMap p l)
     where
-      go : (o : Option B) → all p (pick f l) ≡ all (λ (x : A). noneOr p (f x)) l → all p (consOpt o (pick f l)) ≡ (noneOr p o && all (λ (x : A). noneOr p (f x)) l)
+      go : (o : Option B) → all p (filterMap f l) ≡ all (λ (x : A). noneOr p (f x)) l → all p (consOpt o (filterMap f l)) ≡ (noneOr p o && all (λ (x : A). noneOr p (f x)) l)
       go none e = e
       go (some y) e = ap (λ (b : Bool). p y && b) e
 
-  pub any-pick : (p : B → Bool) (l : List A) → any p (pick f l) ≡ any (λ (x : A). has p (f x)) l
-  any-pick p [] = refl
-  any-pick p (x ∷ l) = go (f x) (any-pick p l)
+  pub any-filterMap : (p : B → Bool) (l : List A) → any p (filterMap f l) ≡ any (λ (x : A). has p (f x)) l
+  any-filterMap p [] = refl
+  any-filterMap p (x ∷ l) = go (f x) (any-filterMap p l)
     where
-      go : (o : Option B) → any p (pick f l) ≡ any (λ (x : A). has p (f x)) l → any p (consOpt o (pick f l)) ≡ (has p o || any (λ (x : A). has p (f x)) l)
+      go : (o : Option B) → any p (filterMap f l) ≡ any (λ (x : A). has p (f x)) l → any p (consOpt o (filterMap f l)) ≡ (has p o || any (λ (x : A). has p (f x)) l)
       go none e = e
       go (some y) e = ap (λ (b : Bool). p y || b) e
 
@@ -124,51 +124,51 @@ module _ {A B : Type 0} (f : A → Option B) where
   any-none t [] = refl
   any-none t (x ∷ l) = any-none t l
 
-  any-some : (t : B → B → Bool) (y : B) (l : List A) → any (t y) (pick f l) ≡ any (λ (x : A). hasBoth t (some y) (f x)) l
+  any-some : (t : B → B → Bool) (y : B) (l : List A) → any (t y) (filterMap f l) ≡ any (λ (x : A). hasBoth t (some y) (f x)) l
   any-some t y [] = refl
   any-some t y (x ∷ l) = go (f x) (any-some t y l)
     where
-      go : (o : Option B) → any (t y) (pick f l) ≡ any (λ (x : A). hasBoth t (some y) (f x)) l → any (t y) (consOpt o (pick f l)) ≡ (hasBoth t (some y) o || any (λ (x : A). hasBoth t (some y) (f x)) l)
+      go : (o : Option B) → any (t y) (filterMap f l) ≡ any (λ (x : A). hasBoth t (some y) (f x)) l → any (t y) (consOpt o (filterMap f l)) ≡ (hasBoth t (some y) o || any (λ (x : A). hasBoth t (some y) (f x)) l)
       go none e = e
       go (some z) e = ap (λ (b : Bool). t y z || b) e
 
-  pub distinct-pick : (t : B → B → Bool) (l : List A) → distinct t (pick f l) ≡ distinct (λ (x y : A). hasBoth t (f x) (f y)) l
-  distinct-pick t [] = refl
-  distinct-pick t (x ∷ l) = go (f x) (distinct-pick t l)
+  pub distinct-filterMap : (t : B → B → Bool) (l : List A) → distinct t (filterMap f l) ≡ distinct (λ (x y : A). hasBoth t (f x) (f y)) l
+  distinct-filterMap t [] = refl
+  distinct-filterMap t (x ∷ l) = go (f x) (distinct-filterMap t l)
     where
-      go : (o : Option B) → distinct t (pick f l) ≡ distinct (λ (x y : A). hasBoth t (f x) (f y)) l →
-          distinct t (consOpt o (pick f l)) ≡ (not (any (λ (y : A). hasBoth t o (f y)) l) && distinct (λ (x y : A). hasBoth t (f x) (f y)) l)
+      go : (o : Option B) → distinct t (filterMap f l) ≡ distinct (λ (x y : A). hasBoth t (f x) (f y)) l →
+          distinct t (consOpt o (filterMap f l)) ≡ (not (any (λ (y : A). hasBoth t o (f y)) l) && distinct (λ (x y : A). hasBoth t (f x) (f y)) l)
       go none e = rw (any-none t l) e
       go (some y) e = ap₂ (λ (b c : Bool). not b && c) (any-some t y l) e
 
-  pub length-keep-pick : (p : B → Bool) (l : List A) → length (keep p (pick f l)) ≡ length (keep (λ (x : A). has p (f x)) l)
-  length-keep-pick p [] = refl
-  length-keep-pick p (x ∷ l) = go (f x) (length-keep-pick p l)
+  pub length-filter-filterMap : (p : B → Bool) (l : List A) → length (filter p (filterMap f l)) ≡ length (filter (λ (x : A). has p (f x)) l)
+  length-filter-filterMap p [] = refl
+  length-filter-filterMap p (x ∷ l) = go (f x) (length-filter-filterMap p l)
     where
-      same : (b : Bool) (y : B) → length (keep p (pick f l)) ≡ length (keep (λ (x : A). has p (f x)) l) →
-          length (consIf b y (keep p (pick f l))) ≡ length (consIf b x (keep (λ (x : A). has p (f x)) l))
+      same : (b : Bool) (y : B) → length (filter p (filterMap f l)) ≡ length (filter (λ (x : A). has p (f x)) l) →
+          length (consIf b y (filter p (filterMap f l))) ≡ length (consIf b x (filter (λ (x : A). has p (f x)) l))
       same true y e = ap suc e
       same false y e = e
 
-      go : (o : Option B) → length (keep p (pick f l)) ≡ length (keep (λ (x : A). has p (f x)) l) →
-          length (keep p (consOpt o (pick f l))) ≡ length (consIf (has p o) x (keep (λ (x : A). has p (f x)) l))
+      go : (o : Option B) → length (filter p (filterMap f l)) ≡ length (filter (λ (x : A). has p (f x)) l) →
+          length (filter p (consOpt o (filterMap f l))) ≡ length (consIf (has p o) x (filter (λ (x : A). has p (f x)) l))
       go none e = e
       go (some y) e = same (p y) y e
 
-  pub length-pick : (l : List A) → length (pick f l) ≡ length (keep (λ (x : A). has (λ (y : B). true) (f x)) l)
-  length-pick [] = refl
-  length-pick (x ∷ l) = go (f x) (length-pick l)
+  pub length-filterMap : (l : List A) → length (filterMap f l) ≡ length (filter (λ (x : A). has (λ (y : B). true) (f x)) l)
+  length-filterMap [] = refl
+  length-filterMap (x ∷ l) = go (f x) (length-filterMap l)
     where
-      go : (o : Option B) → length (pick f l) ≡ length (keep (λ (x : A). has (λ (y : B). true) (f x)) l) →
-          length (consOpt o (pick f l)) ≡ length (consIf (has (λ (y : B). true) o) x (keep (λ (x : A). has (λ (y : B). true) (f x)) l))
+      go : (o : Option B) → length (filterMap f l) ≡ length (filter (λ (x : A). has (λ (y : B). true) (f x)) l) →
+          length (consOpt o (filterMap f l)) ≡ length (consIf (has (λ (y : B). true) o) x (filter (λ (x : A). has (λ (y : B). true) (f x)) l))
       go none e = e
       go (some y) e = ap suc e
 
 module _ {A B : Type 0} where
   -- an element at the end from which nothing is picked
-  pub pick-skip : (f : A → Option B) (l : List A) (x : A) → f x ≡ none → pick f (l ++ (x ∷ [])) ≡ pick f l
-  pick-skip f [] x e = rw e
-  pick-skip f (y ∷ l) x e = ap (consOpt (f y)) (pick-skip f l x e)
+  pub filterMap-skip : (f : A → Option B) (l : List A) (x : A) → f x ≡ none → filterMap f (l ++ (x ∷ [])) ≡ filterMap f l
+  filterMap-skip f [] x e = rw e
+  filterMap-skip f (y ∷ l) x e = ap (consOpt (f y)) (filterMap-skip f l x e)
 
 -- ---- two tests in one
 

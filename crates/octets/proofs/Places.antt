@@ -9,7 +9,7 @@ use mathlib.Core.List.{List, [], _∷_, _++_, map}
 use mathlib.Core.Option.{Option, none, some, Option·map}
 use lib.ListN.{length, getD, set, take, drop, drop-of-length-le, length-drop}
 use lib.Seq.{drop-cons, take-all}
-use Rattle.octets.specs.Lists.{any, orElse, find, consOpt, pick, placeFrom}
+use Rattle.octets.specs.Lists.{any, orElse, find, consOpt, filterMap, placeFrom}
 use Rattle.octets.proofs.Lists.{true-not-false}
 use Rattle.octets.specs.Tests.{has, bindOption}
 
@@ -112,48 +112,48 @@ module _ {A : Type 0} where
 
 module _ {A B : Type 0} where
   -- what f finds in the element at a place, if there is one
-  abbrev pub pickAt : (A → Option B) → A → List A → Option ℕ → Option B
-  pickAt f d l none = none
-  pickAt f d l (some i) = f (getD l i d)
+  abbrev pub valueAt : (A → Option B) → A → List A → Option ℕ → Option B
+  valueAt f d l none = none
+  valueAt f d l (some i) = f (getD l i d)
 
-  pickAt-suc : (f : A → Option B) (d x : A) (l : List A) (o : Option ℕ) → pickAt f d l o ≡ pickAt f d (x ∷ l) (Option·map suc o)
-  pickAt-suc f d x l none = refl
-  pickAt-suc f d x l (some i) = refl
+  valueAt-suc : (f : A → Option B) (d x : A) (l : List A) (o : Option ℕ) → valueAt f d l o ≡ valueAt f d (x ∷ l) (Option·map suc o)
+  valueAt-suc f d x l none = refl
+  valueAt-suc f d x l (some i) = refl
 
-  pub find-pick : (q : B → Bool) (f : A → Option B) (d : A) (l : List A) → find q (pick f l) ≡ pickAt f d l (placeFrom (λ (x : A). has q (f x)) 0 l)
+  pub find-filterMap : (q : B → Bool) (f : A → Option B) (d : A) (l : List A) → find q (filterMap f l) ≡ valueAt f d l (placeFrom (λ (x : A). has q (f x)) 0 l)
   unfolding placeFrom
-  find-pick q f d [] = refl
-  find-pick q f d (x ∷ l) = go (f x) refl (find-pick q f d l) ∙ ap (pickAt f d (x ∷ l)) (sym (place-cons (λ (y : A). has q (f y)) x l))
+  find-filterMap q f d [] = refl
+  find-filterMap q f d (x ∷ l) = go (f x) refl (find-filterMap q f d l) ∙ ap (valueAt f d (x ∷ l)) (sym (place-cons (λ (y : A). has q (f y)) x l))
     where
-      here : (b : Bool) (y : B) → f x ≡ some y → find q (pick f l) ≡ pickAt f d l (placeFrom (λ (y : A). has q (f y)) 0 l) →
-          orElse b y (find q (pick f l)) ≡ pickAt f d (x ∷ l) (orElse b 0 (Option·map suc (placeFrom (λ (y : A). has q (f y)) 0 l)))
+      here : (b : Bool) (y : B) → f x ≡ some y → find q (filterMap f l) ≡ valueAt f d l (placeFrom (λ (y : A). has q (f y)) 0 l) →
+          orElse b y (find q (filterMap f l)) ≡ valueAt f d (x ∷ l) (orElse b 0 (Option·map suc (placeFrom (λ (y : A). has q (f y)) 0 l)))
       here true y e h = sym e
-      here false y e h = h ∙ pickAt-suc f d x l (placeFrom (λ (y : A). has q (f y)) 0 l)
+      here false y e h = h ∙ valueAt-suc f d x l (placeFrom (λ (y : A). has q (f y)) 0 l)
 
-      go : (u : Option B) → f x ≡ u → find q (pick f l) ≡ pickAt f d l (placeFrom (λ (y : A). has q (f y)) 0 l) →
-          find q (consOpt u (pick f l)) ≡ pickAt f d (x ∷ l) (orElse (has q u) 0 (Option·map suc (placeFrom (λ (y : A). has q (f y)) 0 l)))
-      go none e h = h ∙ pickAt-suc f d x l (placeFrom (λ (y : A). has q (f y)) 0 l)
+      go : (u : Option B) → f x ≡ u → find q (filterMap f l) ≡ valueAt f d l (placeFrom (λ (y : A). has q (f y)) 0 l) →
+          find q (consOpt u (filterMap f l)) ≡ valueAt f d (x ∷ l) (orElse (has q u) 0 (Option·map suc (placeFrom (λ (y : A). has q (f y)) 0 l)))
+      go none e h = h ∙ valueAt-suc f d x l (placeFrom (λ (y : A). has q (f y)) 0 l)
       go (some y) e h = here (q y) y e h
 
-  pub any-pick : (q : B → Bool) (f : A → Option B) (l : List A) → any q (pick f l) ≡ any (λ (x : A). has q (f x)) l
-  any-pick q f [] = refl
-  any-pick q f (x ∷ l) = go (f x) (any-pick q f l)
+  pub any-filterMap : (q : B → Bool) (f : A → Option B) (l : List A) → any q (filterMap f l) ≡ any (λ (x : A). has q (f x)) l
+  any-filterMap q f [] = refl
+  any-filterMap q f (x ∷ l) = go (f x) (any-filterMap q f l)
     where
-      go : (u : Option B) → any q (pick f l) ≡ any (λ (y : A). has q (f y)) l → any q (consOpt u (pick f l)) ≡ (has q u || any (λ (y : A). has q (f y)) l)
+      go : (u : Option B) → any q (filterMap f l) ≡ any (λ (y : A). has q (f y)) l → any q (consOpt u (filterMap f l)) ≡ (has q u || any (λ (y : A). has q (f y)) l)
       go none e = e
       go (some y) e = ap (λ (b : Bool). q y || b) e
 
-  pub pick-ext : (f g : A → Option B) (l : List A) → ((x : A) → f x ≡ g x) → pick f l ≡ pick g l
-  pick-ext f g [] h = refl
-  pick-ext f g (x ∷ l) h = ap₂ (λ (o : Option B) (r : List B). consOpt o r) (h x) (pick-ext f g l h)
+  pub filterMap-ext : (f g : A → Option B) (l : List A) → ((x : A) → f x ≡ g x) → filterMap f l ≡ filterMap g l
+  filterMap-ext f g [] h = refl
+  filterMap-ext f g (x ∷ l) h = ap₂ (λ (o : Option B) (r : List B). consOpt o r) (h x) (filterMap-ext f g l h)
 
 module _ {A B C : Type 0} where
   -- a pick of a pick is one pick
-  pub pick-pick : (g : B → Option C) (f : A → Option B) (l : List A) → pick g (pick f l) ≡ pick (λ (x : A). bindOption g (f x)) l
-  pick-pick g f [] = refl
-  pick-pick g f (x ∷ l) = go (f x) (pick-pick g f l)
+  pub filterMap-filterMap : (g : B → Option C) (f : A → Option B) (l : List A) → filterMap g (filterMap f l) ≡ filterMap (λ (x : A). bindOption g (f x)) l
+  filterMap-filterMap g f [] = refl
+  filterMap-filterMap g f (x ∷ l) = go (f x) (filterMap-filterMap g f l)
     where
-      go : (u : Option B) → pick g (pick f l) ≡ pick (λ (y : A). bindOption g (f y)) l → pick g (consOpt u (pick f l)) ≡ consOpt (bindOption g u) (pick (λ (y : A). bindOption g (f y)) l)
+      go : (u : Option B) → filterMap g (filterMap f l) ≡ filterMap (λ (y : A). bindOption g (f y)) l → filterMap g (consOpt u (filterMap f l)) ≡ consOpt (bindOption g u) (filterMap (λ (y : A). bindOption g (f y)) l)
       go none e = e
       go (some y) e = ap (λ (r : List C). consOpt (g y) r) e
 

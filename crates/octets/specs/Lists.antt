@@ -21,9 +21,9 @@ module _ {ℓ} {A : Type ℓ} where
   consIf false x xs = xs
 
   -- the elements that pass the test, in their order
-  abbrev pub keep : (A → Bool) → List A → List A
-  keep p [] = []
-  keep p (x ∷ xs) = consIf (p x) x (keep p xs)
+  abbrev pub filter : (A → Bool) → List A → List A
+  filter p [] = []
+  filter p (x ∷ xs) = consIf (p x) x (filter p xs)
 
   abbrev pub orElse : Bool → A → Option A → Option A
   orElse true x o = some x
@@ -51,9 +51,9 @@ module _ {ℓ} {A : Type ℓ} where
 
 module _ {ℓ κ} {A : Type ℓ} {B : Type κ} where
   -- what f finds in the elements, in their order
-  abbrev pub pick : (A → Option B) → List A → List B
-  pick f [] = []
-  pick f (x ∷ xs) = consOpt (f x) (pick f xs)
+  abbrev pub filterMap : (A → Option B) → List A → List B
+  filterMap f [] = []
+  filterMap f (x ∷ xs) = consOpt (f x) (filterMap f xs)
 
 module _ {ℓ} {A : Type ℓ} where
   -- the lowest place of an element that passes the test, the first element counted as i

@@ -12,16 +12,16 @@ use Rattle.events.specs.Records.{recordLength}
 use Rattle.rules.specs.Replies.{DropOrder, octets}
 use Rattle.rules.specs.Step.{Outcome}
 use Rattle.ect.proofs.CallHistory.{replies-are}
-use Rattle.ect.specs.Contract.{Shows, answerNumber, answerCount}
+use Rattle.ect.specs.Contract.{OutcomeOf, answerNumber, answerCount}
 use Rattle.ect.specs.declared.Stepped.{Stepped}
 use Rattle.log_text.proofs.TextLaws.{line-short}
 use Rattle.log_text.specs.Lines.{recordLine}
 use Rattle.log_text.specs.Writing.{Fitted}
 use Rattle.playing.specs.declared.Pause.the-variants.{MoreInput, FullOutput, End}
 use Rattle.playing.specs.Log.{outcomeLine, ordersLater, judged, stopsReading, largestNumber}
-use Rattle.playing.specs.Playing.{frontLength, pieceRecord, pieceLine, longestLine, pauseAtEnd, Playing, pausing, withRecord, playFrom, playing, TellsOf}
+use Rattle.playing.specs.Playing.{frontLength, pieceRecord, pieceLine, longestLine, pauseAtEnd, Playing, pausing, withRecord, playFrom, playing, PlaysRecordAs}
 
-module _ {o : Outcome} {before after : List ℕ} {r : Stepped} (s : Shows o before r after) where
+module _ {o : Outcome} {before after : List ℕ} {r : Stepped} (s : OutcomeOf o before r after) where
   -- the octets written lie in the buffer
   pub count-within : length after ≡ length before → answerCount (r .answer) ≤ length after
   count-within e =
@@ -32,7 +32,7 @@ module _ {o : Outcome} {before after : List ℕ} {r : Stepped} (s : Shows o befo
   pub told : {number returned count written : ℕ} {event out out′ : List ℕ} → returned ≡ answerNumber (r .answer) → count ≡ answerCount (r .answer)
       → Fitted (recordLine number (getD event 0 0) returned (take count after)) out out′ written
       → length (outcomeLine number event o) ≤ longestLine
-      → TellsOf o number event out out′ (record { board = r .board; returned = returned; written = written })
+      → PlaysRecordAs o number event out out′ (record { board = r .board; returned = returned; written = written })
   told e f p h =
       let g = e ∙ s .answer in
       record {

@@ -16,9 +16,9 @@ use Rattle.rules.proofs.SoundKept.{sound-kept, as-many-rows}
 use Rattle.log_text.specs.Writing.{Fitted}
 use Rattle.playing.specs.declared.Pause.{Pause}
 use Rattle.playing.specs.declared.Pause.the-variants.{End}
-use Rattle.playing.specs.declared.Told.{Told}
+use Rattle.playing.specs.declared.PlayedRecord.{PlayedRecord}
 use Rattle.playing.specs.Log.{outcomeLine, stopsReading, largestNumber}
-use Rattle.playing.specs.Playing.{frontLength, longestLine, Playing, pausing, withRecord, playing, pausedAt, Plays, TellsOf}
+use Rattle.playing.specs.Playing.{frontLength, longestLine, Playing, pausing, withRecord, playing, pausedAt, Plays, PlaysRecordAs}
 use Rattle.playing.proofs.PlayingLaws.{plays-on, plays-stop}
 
 -- what is written so far lies in the front of the buffer, and whatever orders come later, playing goes on behind it
@@ -74,10 +74,10 @@ line-behind out₀ out written line part part′ text w c o h s l p =
 -- ---- a turn: the record in front is judged, and its line lies behind what is written
 
 module _ {b₀ b : Board} {n₀ n read text : ℕ} {piece out₀ out : List ℕ} {last : Bool} (s : SoFar b₀ n₀ piece last out₀ b n read text out)
-    (taken : ℕ) (event part part′ : List ℕ) (order : DropOrder) (r : Told)
+    (taken : ℕ) (event part part′ : List ℕ) (order : DropOrder) (r : PlayedRecord)
     (more : read < length piece) (within : text ≤ length out) (long : length out ≡ length out₀) (room : longestLine ≤ length out - text) (fewer : n < largestNumber)
     (front : taken ≡ frontLength last (drop read piece)) (some : 0 < taken) (is : event ≡ take taken (drop read piece)) (behind : part ≡ drop text out)
-    (t : TellsOf (step order b event 128) (n + 1) event part part′ r) where
+    (t : PlaysRecordAs (step order b event 128) (n + 1) event part part′ r) where
   abbrev line : List ℕ
   line = outcomeLine (n + 1) event (step order b event 128)
 
@@ -130,11 +130,11 @@ module _ {b₀ b : Board} {n₀ n read text : ℕ} {piece out₀ out : List ℕ}
 
 -- ---- the board's soundness is known from before the first record
 
-module _ {tested : Bool} (order : DropOrder) (b : Board) {n : ℕ} (event : List ℕ) {part part′ : List ℕ} {r : Told} (e : tested ≡ sound b)
-    (t : TellsOf (stepTested tested order b event 128) n event part part′ r) where
-  pub tells-step : TellsOf (step order b event 128) n event part part′ r
+module _ {tested : Bool} (order : DropOrder) (b : Board) {n : ℕ} (event : List ℕ) {part part′ : List ℕ} {r : PlayedRecord} (e : tested ≡ sound b)
+    (t : PlaysRecordAs (stepTested tested order b event 128) n event part part′ r) where
+  pub tells-step : PlaysRecordAs (step order b event 128) n event part part′ r
   unfolding step
-  tells-step = subst (λ (x : Bool). TellsOf (stepTested x order b event 128) n event part part′ r) e t
+  tells-step = subst (λ (x : Bool). PlaysRecordAs (stepTested x order b event 128) n event part part′ r) e t
 
   pub stays-sound : length (b .rows) ≡ 64 → (tested ≡ sound (r .board)) × (length (r .board .rows) ≡ 64)
   stays-sound l = (e ∙ sym (ap sound (tells-step .board) ∙ sound-kept order b event 128 l), rw (tells-step .board) (as-many-rows order b event 128 ∙ l))

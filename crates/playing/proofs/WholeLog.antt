@@ -152,7 +152,7 @@ piece-of-log (suc k) orders b n (o ∷ os) later last room h z =
 -- ---- the calls
 
 -- a call of `play` that met its contract
-pub record Met (b : Board) (n : ℕ) (piece : List ℕ) (last : Bool) (before after : List ℕ) (r : Played) : Type 0 where
+pub record PlayContractMet (b : Board) (n : ℕ) (piece : List ℕ) (last : Bool) (before after : List ℕ) (r : Played) : Type 0 where
   pub lifetimes : Lfts 2
   pub piece-at : (ℕ × ℕ) × GName
   pub buffer-at : (ℕ × ℕ) × GName
@@ -164,12 +164,12 @@ pub record Met (b : Board) (n : ℕ) (piece : List ℕ) (last : Bool) (before af
 -- as long as it likes and told to be the last only where it is. Their text is what they leave in the front of their buffers.
 pub data Calls : Board → ℕ → List ℕ → List ℕ → Board → ℕ → Type 0 where
   last-call : (b : Board) (n : ℕ) (piece later : List ℕ) (last : Bool) (before after : List ℕ) (r : Played) → Later last later →
-      Met b n piece last before after r → r .pause ≡ End → Calls b n (piece ++ later) (take (r .written) after) (r .board) (r .number)
+      PlayContractMet b n piece last before after r → r .pause ≡ End → Calls b n (piece ++ later) (take (r .written) after) (r .board) (r .number)
   next-call : (b : Board) (n : ℕ) (piece later : List ℕ) (last : Bool) (before after : List ℕ) (r : Played) (text : List ℕ) (c : Board) (m : ℕ) → Later last later →
-      Met b n piece last before after r → (r .pause ≡ End → ⊥) → Calls (r .board) (r .number) (drop (r .read) piece ++ later) text c m →
+      PlayContractMet b n piece last before after r → (r .pause ≡ End → ⊥) → Calls (r .board) (r .number) (drop (r .read) piece ++ later) text c m →
       Calls b n (piece ++ later) (take (r .written) after ++ text) c m
 
-module _ {b : Board} {n : ℕ} {piece later before after : List ℕ} {last : Bool} {r : Played} (z : Later last later) (h : Met b n piece last before after r) where
+module _ {b : Board} {n : ℕ} {piece later before after : List ℕ} {last : Bool} {r : Played} (z : Later last later) (h : PlayContractMet b n piece last before after r) where
   text-is : take (r .written) after ≡ playing (h .met .0) b n piece last (length before) .text
   text-is =
       let p = playing (h .met .0) b n piece last (length before) in

@@ -11,7 +11,7 @@ use Rattle.rules.specs.Replies.{DropOrder}
 use Rattle.rules.specs.Step.{Outcome, stepTested}
 use Rattle.octets.specs.Buffers.{frontWritten}
 use Rattle.log_text.specs.Writing.{Fitted}
-use Rattle.playing.specs.declared.Told.{Told}
+use Rattle.playing.specs.declared.PlayedRecord.{PlayedRecord}
 use Rattle.playing.specs.declared.Pause.{Pause}
 use Rattle.playing.specs.declared.Pause.the-variants.{MoreInput, FullOutput, End}
 use Rattle.playing.specs.declared.Played.{Played}
@@ -88,12 +88,12 @@ abbrev pub Plays : Board → ℕ → List ℕ → Bool → List ℕ → List ℕ
 Plays b n piece last before after r = (orders : List DropOrder) × PlaysAs (playing orders b n piece last (length before)) before after r
 
 -- the board, the number returned and the line are those of an outcome; the line is short, so that a buffer of 512 octets has room for it
-pub record TellsOf (o : Outcome) (number : ℕ) (event before after : List ℕ) (r : Told) : Type 0 where
+pub record PlaysRecordAs (o : Outcome) (number : ℕ) (event before after : List ℕ) (r : PlayedRecord) : Type 0 where
   pub board : r .board ≡ o .board
   pub returned : r .returned ≡ o .returned
   pub line : Fitted (outcomeLine number event o) before after (r .written)
   pub short : length (outcomeLine number event o) ≤ longestLine
 
 -- the outcome is that of the rules at a buffer of 128 octets, in one order of a transfer's two Drops
-abbrev pub Tells : Bool → Board → ℕ → List ℕ → List ℕ → List ℕ → Told → Type 0
-Tells tested b number event before after r = (order : DropOrder) × TellsOf (stepTested tested order b event 128) number event before after r
+abbrev pub PlaysRecord : Bool → Board → ℕ → List ℕ → List ℕ → List ℕ → PlayedRecord → Type 0
+PlaysRecord tested b number event before after r = (order : DropOrder) × PlaysRecordAs (stepTested tested order b event 128) number event before after r

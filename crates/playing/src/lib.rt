@@ -12,7 +12,7 @@ ghost use Prim.Native.Nat.{_≤_, _<_};
 ghost use lib.ListN.{length, getD};
 ghost use Rattle.board.specs.Soundness.{sound as soundBoard};
 ghost use Rattle.playing.specs.Log.{stopsReading};
-ghost use Rattle.playing.specs.Playing.{Tells, frontLength, pauseAtEnd, pausedAt, Plays};
+ghost use Rattle.playing.specs.Playing.{PlaysRecord, frontLength, pauseAtEnd, pausedAt, Plays};
 
 // More than the longest line of a record: 20 digits, kind, number returned, twice 128 octets, spaces and the end.
 const LONGEST_LINE: usize = 512;
@@ -36,7 +36,7 @@ pub struct Played {
 }
 
 // What one record led to, and how many octets its line has.
-pub struct Told {
+pub struct PlayedRecord {
     pub board: Board,
     pub returned: u8,
     pub written: usize,
@@ -51,9 +51,15 @@ fn kind_of(event: &[u8]) -> u8
 }
 
 // Has the component judge a record, and writes its line.
-fn tell(board: Board, is_sound: bool, number: u64, event: &[u8], out: &mut [u8]) -> Told
+fn play_record(
+    board: Board,
+    is_sound: bool,
+    number: u64,
+    event: &[u8],
+    out: &mut [u8],
+) -> PlayedRecord
     requires { ⌜ 0 < length (now event) ⌝ }
-    ensures { λ r. ⌜ Tells «is_sound» board number (now (event .entry)) (now (out .entry)) (now (out .exit)) r ⌝ }
+    ensures { λ r. ⌜ PlaysRecord «is_sound» board number (now (event .entry)) (now (out .entry)) (now (out .exit)) r ⌝ }
 {
     let mut reply = [0u8; 128];
     let stepped = step_tested(board, is_sound, event, &mut reply);
@@ -63,7 +69,7 @@ fn tell(board: Board, is_sound: bool, number: u64, event: &[u8], out: &mut [u8])
     let kind = kind_of(event);
     let n = log_text::record_line(number, kind, number_returned, &reply[..count], out);
     let after = stepped.board;
-    Told {
+    PlayedRecord {
         board: after,
         returned: number_returned,
         written: n,
@@ -140,17 +146,17 @@ fn play_tested(
             return paused(board, number, read, text, Pause::End);
         }
         number += 1;
-        let told = tell(
+        let played = play_record(
             board,
             is_sound,
             number,
             &piece[read..read + taken],
             &mut out[text..],
         );
-        board = told.board;
+        board = played.board;
         read += taken;
-        text += told.written;
-        if stops(told.returned) {
+        text += played.written;
+        if stops(played.returned) {
             return paused(board, number, read, text, Pause::End); // Nothing behind it is read.
         }
     }

@@ -7,10 +7,11 @@ use lib.ListN.{length, replicate, length-append}
 use lib.Seq.{take-append-seam}
 use Rattle.component.specs.declared.Answer.{Answer}
 use Rattle.octets.proofs.Appending.{join, zero-filled}
-use Rattle.rules.specs.Replies.{Number, ReplyRecord, Reply, Tell, Drop, Gone, recordOctets, octets}
+use Rattle.rules.specs.Replies.{ReplyRecord, Reply, Tell, Drop, Gone, recordOctets, octets}
 use Rattle.replies.specs.declared.Out.{Out}
 use Rattle.replies.specs.Code.Writing.{rendered, written, blank, AppendedTo, Adds}
 use Rattle.replies.proofs.Room.{reply-room, tell-room, drop-room, gone-room}
+use Rattle.rules.specs.declared.TellNumber.{TellNumber}
 
 -- ---- records
 
@@ -29,7 +30,7 @@ one {a} {b} r n e g =
 pub reply : {a b : Out} {r : ℕ} {x : Answer} → AppendedTo a b (recordOctets (Reply r x)) → Adds a b (Reply r x ∷ []) 36
 reply {r = r} {x = x} g = one (Reply r x) 36 (reply-room r x) g
 
-pub tell : {a b : Out} {l m d : ℕ} {n : Number} {s : ℕ} → length (n .digits) ≡ 15 → AppendedTo a b (recordOctets (Tell l m d n s)) → Adds a b (Tell l m d n s ∷ []) 25
+pub tell : {a b : Out} {l m d : ℕ} {n : TellNumber} {s : ℕ} → length (n .digits) ≡ 15 → AppendedTo a b (recordOctets (Tell l m d n s)) → Adds a b (Tell l m d n s ∷ []) 25
 tell {l = l} {m = m} {d = d} {n = n} {s = s} h g = one (Tell l m d n s) 25 (tell-room l m d n s h) g
 
 pub dropped : {a b : Out} {r : ℕ} → AppendedTo a b (recordOctets (Drop r)) → Adds a b (Drop r ∷ []) 3

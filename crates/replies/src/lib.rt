@@ -4,6 +4,7 @@ use component::Answer;
 use component::encode;
 use octets::CallReference;
 use octets::IntegerOctets;
+use rules::TellNumber;
 ghost use mathlib.Core.Path.{_≡_};
 ghost use mathlib.Core.List.{[], _∷_};
 ghost use Prim.Native.Nat.{_+_, _≤_};
@@ -11,7 +12,7 @@ ghost use lib.ListN.{length};
 ghost use Rattle.octets.specs.Numbers.{four};
 ghost use Rattle.rules.specs.Replies.{Reply, Tell, Drop, Gone, markOnly, numberAsTold, told};
 ghost use Rattle.rules.specs.Replies.{facility, transferredActive};
-ghost use Rattle.replies.specs.Code.Writing.{AppendedTo, Adds, rendered, numberTold, transferRecords};
+ghost use Rattle.replies.specs.Code.Writing.{AppendedTo, Adds, rendered, transferRecords};
 
 const FACILITY: u8 = 0;
 
@@ -27,25 +28,18 @@ pub struct Out {
     pub len: usize,
 }
 
-// A number as it is told: its mark, and its digits only where the mark is 1.
-pub struct Told {
-    pub mark: u8,
-    pub count: u8,
-    pub digits: [u8; 15],
-}
-
 // A far party of a transfer: its call with the served user, its leg, whether that alerts, and its number.
 pub struct FarParty {
     pub reference: CallReference,
     pub leg: u32,
     pub alerts: bool,
-    pub number: Told,
+    pub number: TellNumber,
 }
 
-fn mark_only(mark: u8) -> Told
-    ensures { λ r. ⌜ numberTold r ≡ markOnly mark ⌝ }
+fn mark_only(mark: u8) -> TellNumber
+    ensures { λ r. ⌜ r ≡ markOnly mark ⌝ }
 {
-    Told {
+    TellNumber {
         mark,
         count: 0,
         digits: [0u8; 15],
@@ -53,15 +47,15 @@ fn mark_only(mark: u8) -> Told
 }
 
 // A number that is unknown, or not sent.
-fn unknown() -> Told
-    ensures { λ r. ⌜ numberTold r ≡ markOnly 0 ⌝ }
+fn unknown() -> TellNumber
+    ensures { λ r. ⌜ r ≡ markOnly 0 ⌝ }
 {
     mark_only(0)
 }
 
 // A far party's number as it is told. Digits that are restricted are withheld, so they never reach the octets.
-pub fn number_as_told(number: PartyNumber) -> Told
-    ensures { λ r. ⌜ numberTold r ≡ numberAsTold number ⌝ }
+pub fn number_as_told(number: PartyNumber) -> TellNumber
+    ensures { λ r. ⌜ r ≡ numberAsTold number ⌝ }
 {
     if number.count == 0 {
         return unknown();
@@ -70,7 +64,7 @@ pub fn number_as_told(number: PartyNumber) -> Told
         return mark_only(2);
     }
     let digits = number.digits;
-    Told {
+    TellNumber {
         mark: 1,
         count: number.count,
         digits,
@@ -138,9 +132,16 @@ impl Out {
         self.push_part(&record)
     }
 
-    fn push_tell(self, leg: u32, message: u8, description: u8, number: Told, request: u8) -> Out
+    fn push_tell(
+        self,
+        leg: u32,
+        message: u8,
+        description: u8,
+        number: TellNumber,
+        request: u8,
+    ) -> Out
         requires { ⌜ self .len + 25 ≤ 128 ⌝ }
-        ensures { λ r. ⌜ Adds self r (Tell leg message description (numberTold number) request ∷ []) 25 ⌝ }
+        ensures { λ r. ⌜ Adds self r (Tell leg message description number request ∷ []) 25 ⌝ }
     {
         let digits = number.digits;
         let l = four_octets(leg);
@@ -160,9 +161,9 @@ impl Out {
     }
 
     // What a transfer tells the party at a leg: `other` is whether the other party alerts, the number is the other's.
-    fn push_told(self, leg: u32, alerts: bool, other: bool, number: Told) -> Out
+    fn push_told(self, leg: u32, alerts: bool, other: bool, number: TellNumber) -> Out
         requires { ⌜ self .len + 25 ≤ 128 ⌝ }
-        ensures { λ r. ⌜ Adds self r (told leg alerts other (numberTold number) ∷ []) 25 ⌝ }
+        ensures { λ r. ⌜ Adds self r (told leg alerts other number ∷ []) 25 ⌝ }
     {
         if alerts {
             return self.push_tell(leg, NOTIFY, TRANSFERRED_ACTIVE, number, 0);
@@ -206,8 +207,8 @@ pub fn gone(leg: u32) -> Out
 }
 
 // What an answer tells the partner.
-pub fn answer_told(partner: u32, number: Told) -> Out
-    ensures { λ r. ⌜ r ≡ rendered (Tell partner facility transferredActive (numberTold number) 0 ∷ []) ⌝ }
+pub fn answer_told(partner: u32, number: TellNumber) -> Out
+    ensures { λ r. ⌜ r ≡ rendered (Tell partner facility transferredActive number 0 ∷ []) ⌝ }
 {
     nothing().push_tell(partner, FACILITY, TRANSFERRED_ACTIVE, number, 0)
 }

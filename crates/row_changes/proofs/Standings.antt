@@ -16,7 +16,7 @@ use Rattle.board.specs.declared.Change.the-variants.{SetState, SetAuxiliary, Se
 use Rattle.board.specs.Lookup.{isCallOf}
 use Rattle.board.proofs.Rows.{and-true}
 use Rattle.row_changes.specs.Code.Named.{namedCall, subjectOf, concerns}
-use Rattle.board.specs.Changes.{mapStanding, changedCall, withState, withAuxiliary, withLinkId, joined, answered, rowAfter}
+use Rattle.board.specs.Changes.{mapStanding, changedCall, withState, withAuxiliary, withLinkId, joined, alertingEnded, rowAfter}
 
 abbrev pub withStanding : Standing → Row → Row
 withStanding s r = record { leg = r .leg; number = r .number; standing = s }
@@ -67,7 +67,7 @@ join-stays a b n Empty e = refl
 join-stays a b n (Served c) e = let k = or-false (eqb n a) (eqb n b) e in rw (eqb-sym a n ∙ k .0, eqb-sym b n ∙ k .1)
 join-stays a b n (Joined p x) e = refl
 
-alerting-stays : (l n : ℕ) (s : Standing) → (eqb n l || eqb n l) ≡ false → answered l n s ≡ s
+alerting-stays : (l n : ℕ) (s : Standing) → (eqb n l || eqb n l) ≡ false → alertingEnded l n s ≡ s
 alerting-stays l n Empty e = refl
 alerting-stays l n (Served c) e = refl
 alerting-stays l n (Joined p x) e = rw (eqb-sym l n ∙ or-false (eqb n l) (eqb n l) e .0) (ap (λ (b : Bool). Joined p b) (and-true x))
@@ -78,6 +78,6 @@ untouched (SetState r s) row e = sym (standing-kept (changedCall r (withState s)
 untouched (SetAuxiliary r a) row e = sym (standing-kept (changedCall r (withAuxiliary a)) row (call-stays r (withAuxiliary a) (row .leg) (row .standing) e))
 untouched (SetLinkId r l) row e = sym (standing-kept (changedCall r (withLinkId l)) row (call-stays r (withLinkId l) (row .leg) (row .standing) e))
 untouched (Join a b) row e = sym (standing-kept (joined a b) row (join-stays a b (row .leg) (row .standing) e))
-untouched (EndAlerting l) row e = sym (standing-kept (answered l) row (alerting-stays l (row .leg) (row .standing) e))
+untouched (EndAlerting l) row e = sym (standing-kept (alertingEnded l) row (alerting-stays l (row .leg) (row .standing) e))
 untouched (Release l) row e = rw (or-false (eqb (row .leg) l) (eqb (row .leg) l) e .0)
 untouched (ReleasePair l p) row e = rw e

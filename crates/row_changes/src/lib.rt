@@ -5,7 +5,7 @@ ghost use mathlib.Core.Bool.{_||_};
 ghost use Rattle.board.specs.States.{delivered};
 ghost use Rattle.row_changes.specs.Code.Named.{namedCall, subjectOf, concerns};
 ghost use Rattle.board.specs.Changes.{withState, withAuxiliary, withLinkId, mapStanding, changedCall};
-ghost use Rattle.board.specs.Changes.{joined, answered, emptiedIf, rowAfter, changedRows, enter, withRows};
+ghost use Rattle.board.specs.Changes.{joined, alertingEnded, emptiedIf, rowAfter, changedRows, enter, withRows};
 use board::AuxiliaryState;
 use board::Board;
 use board::Call;
@@ -133,7 +133,7 @@ fn join(row: Row, a: u32, b: u32) -> Row
 }
 
 fn end_alerting(row: Row, leg: u32) -> Row
-    ensures { λ r. ⌜ r ≡ mapStanding (answered leg) row ⌝ }
+    ensures { λ r. ⌜ r ≡ mapStanding (alertingEnded leg) row ⌝ }
 {
     let standing = row.standing;
     match standing {

@@ -9,7 +9,7 @@ use lib.ListN.{length, getD, drop}
 use Rattle.board.proofs.SoundEntries.{Sound, of-sound, sound-perm, sound-of}
 use Rattle.board.specs.Changes.{full}
 use Rattle.board.specs.Entries.{taken}
-use Rattle.board.specs.Making.{options, fresh, emptyBoard, unmade}
+use Rattle.board.specs.Making.{options, fresh, emptyBoard, makingRefused}
 use Rattle.board.specs.Soundness.{validRow, validOptions, sound, soundRows, soundEntries}
 use Rattle.board.specs.declared.Board.{Board}
 use Rattle.board.specs.declared.Made.{Made}
@@ -154,7 +154,7 @@ pub begun : (s a : ℕ) → Together (fresh s a .board) (freshBook s a)
 unfolding fresh freshBook
 begun s a = go (validOptions (options s a)) refl
   where
-    go : (x : Bool) → validOptions (options s a) ≡ x → Together ((cond {A = Made} x (record { returned = 0; board = emptyBoard (options s a) }) unmade) .board) (cond {A = Book} x (emptyBook (options s a)) (emptyBook (options 0 0)))
+    go : (x : Bool) → validOptions (options s a) ≡ x → Together ((cond {A = Made} x (record { returned = 0; board = emptyBoard (options s a) }) makingRefused) .board) (cond {A = Book} x (emptyBook (options s a)) (emptyBook (options 0 0)))
     go true h = empty-together (options s a) h
     go false h = empty-together (options 0 0) refl
 

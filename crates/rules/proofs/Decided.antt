@@ -13,7 +13,7 @@ use Rattle.board.specs.declared.Connection.the-variants.{WithUser, WithPartner}
 use Rattle.board.specs.declared.Entry.{Entry}
 use Rattle.board.specs.declared.Party.{Party}
 use Rattle.board.specs.Entries.{isLinkId, hasLeg, hasReference, calls, hasPartyReference, linkIdIn, hasPartyLinkId}
-use Rattle.board.specs.LinkIds.{freeLinkId, live}
+use Rattle.board.specs.LinkIds.{freeLinkId, live, mostLinkIds}
 use Rattle.board.specs.States.{holdable}
 use Rattle.board.specs.declared.AuxiliaryState.{AuxiliaryState}
 use Rattle.board.specs.declared.CallState.{CallState}
@@ -33,8 +33,8 @@ use Rattle.events.specs.Refusals.{refusalNumber}
 use Rattle.events.specs.EventRecords.{Answer, Request, Open, Progress, Hold, Release, Facility, Malformed, inRange}
 use Rattle.rules.specs.Serving.{Service, Silent, Respond, assign, AssignLinkId, partnerFor, Transfer, execute, executeExplicitly, error, newLinkId, linkIdRequest, perform, serve}
 use Rattle.events.specs.declared.Refusal.{Refusal}
-use Rattle.octets.proofs.Lists.{keep-mem, only-mem, find-mem}
-use Rattle.octets.specs.Lists.{only, keep, find, any}
+use Rattle.octets.proofs.Lists.{filter-mem, only-mem, find-mem}
+use Rattle.octets.specs.Lists.{only, filter, find, any}
 use Rattle.octets.specs.declared.IntegerOctets.{IntegerOctets}
 use Rattle.octets.specs.declared.LinkId.{LinkId}
 use Rattle.events.specs.declared.Refusal.the-variants as refusal
@@ -46,12 +46,12 @@ module _ (opt : Options) (z : ℤ) (ps : List Party) (p : Party) where
   pub data ComesTo : Service → Type 0 where
     silent : ComesTo Silent
     respond : (a : ComponentAnswer) → ComesTo (Respond a)
-    assigned : {y : ℤ} (i : IntegerOctets) → freeLinkId 16 z (live ps) ≡ some y → leb 16 (length (live ps)) ≡ false → ComesTo (AssignLinkId (record { 0 = y }) i)
+    assigned : {y : ℤ} (i : IntegerOctets) → freeLinkId mostLinkIds z (live ps) ≡ some y → leb mostLinkIds (length (live ps)) ≡ false → ComesTo (AssignLinkId (record { 0 = y }) i)
     transferred : {q : Party} (i : IntegerOctets) → List·Memᴰ q ps → partnerFor opt p q ≡ true → ComesTo (Transfer p q i)
 
-  execute-is : (i : IntegerOctets) (o : Option Party) → only (keep (partnerFor opt p) ps) ≡ o → ComesTo (execute p i o)
+  execute-is : (i : IntegerOctets) (o : Option Party) → only (filter (partnerFor opt p) ps) ≡ o → ComesTo (execute p i o)
   execute-is i none e = respond _
-  execute-is i (some q) e = let m = keep-mem (partnerFor opt p) ps (only-mem (keep (partnerFor opt p) ps) e) in transferred i (m .0) (m .1)
+  execute-is i (some q) e = let m = filter-mem (partnerFor opt p) ps (only-mem (filter (partnerFor opt p) ps) e) in transferred i (m .0) (m .1)
 
   explicit-is : (i : IntegerOctets) (l : LinkId) (o : Option Party) → find (hasPartyLinkId (l .0)) ps ≡ o → ComesTo (executeExplicitly opt p i o)
   explicit-is i l none e = respond _
@@ -61,10 +61,10 @@ module _ (opt : Options) (z : ℤ) (ps : List Party) (p : Party) where
       go true h = transferred i (find-mem (hasPartyLinkId (l .0)) ps e .0) h
       go false h = respond _
 
-  new-is : (i : IntegerOctets) → ComesTo (newLinkId (length (live ps)) i (freeLinkId 16 z (live ps)))
-  new-is i = go (leb 16 (length (live ps))) refl (freeLinkId 16 z (live ps)) refl
+  new-is : (i : IntegerOctets) → ComesTo (newLinkId (length (live ps)) i (freeLinkId mostLinkIds z (live ps)))
+  new-is i = go (leb mostLinkIds (length (live ps))) refl (freeLinkId mostLinkIds z (live ps)) refl
     where
-      go : (b : Bool) → leb 16 (length (live ps)) ≡ b → (o : Option ℤ) → freeLinkId 16 z (live ps) ≡ o → ComesTo (cond b (error i 11) (assign i o))
+      go : (b : Bool) → leb mostLinkIds (length (live ps)) ≡ b → (o : Option ℤ) → freeLinkId mostLinkIds z (live ps) ≡ o → ComesTo (cond b (error i 11) (assign i o))
       go true h o e = respond _
       go false h none e = respond _
       go false h (some y) e = assigned i e h
@@ -74,7 +74,7 @@ module _ (opt : Options) (z : ℤ) (ps : List Party) (p : Party) where
   request-is i (some y) = respond _
 
   perform-is : (i : IntegerOctets) (op : Operation) → ComesTo (perform opt z ps p i op)
-  perform-is i EctExecute = execute-is i (only (keep (partnerFor opt p) ps)) refl
+  perform-is i EctExecute = execute-is i (only (filter (partnerFor opt p) ps)) refl
   perform-is i (ExplicitEctExecute l) = explicit-is i l (find (hasPartyLinkId (l .0)) ps) refl
   perform-is i EctLinkIdRequest = request-is i (linkIdIn (p .call .link))
 
@@ -115,8 +115,8 @@ module _ (opt : Options) (z : ℤ) (w : Bool) (es : List Entry) where
     sets-auxiliary : {r : ℕ} {a : AuxiliaryState} {p : Party} → named r es ≡ some p → (holdable (p .call .state) && mayHold (p .call .auxiliary) a) ≡ true →
         Decided (Hold r a) (accept (change.SetAuxiliary (record { 0 = r }) a) nothing)
     releases : {l : ℕ} {e : Entry} → List·Memᴰ e es → hasLeg l e ≡ true → Decided (Release l) (accept (releaseOf (e .leg) (e .connection)) (releaseReplies (e .connection)))
-    assigns-link-id : {r : ℕ} {c : List ℕ} {p : Party} {y : ℤ} (i : IntegerOctets) → List·Memᴰ p (calls es) → freeLinkId 16 z (live (calls es)) ≡ some y →
-        leb 16 (length (live (calls es))) ≡ false → Decided (Facility r c) (serviceDecision opt p (AssignLinkId (record { 0 = y }) i))
+    assigns-link-id : {r : ℕ} {c : List ℕ} {p : Party} {y : ℤ} (i : IntegerOctets) → List·Memᴰ p (calls es) → freeLinkId mostLinkIds z (live (calls es)) ≡ some y →
+        leb mostLinkIds (length (live (calls es))) ≡ false → Decided (Facility r c) (serviceDecision opt p (AssignLinkId (record { 0 = y }) i))
     transfers : {r : ℕ} {c : List ℕ} {p o : Party} (i : IntegerOctets) → List·Memᴰ p (calls es) → List·Memᴰ o (calls es) → partnerFor opt p o ≡ true →
         Decided (Facility r c) (serviceDecision opt p (Transfer p o i))
     ends-alerting : {l p : ℕ} → Decided (Answer l) (accept (change.EndAlerting l) (answerTold opt l p))

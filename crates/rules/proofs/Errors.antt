@@ -22,7 +22,7 @@ use Rattle.component.specs.Answers.{answerOctets, filled}
 use Rattle.rules.specs.Checks.{Decision, Refuse, Accept, returnedBy}
 use Rattle.events.specs.Refusals.{refusalNumber}
 use Rattle.rules.specs.History.{Event, stepped}
-use Rattle.rules.specs.Replies.{told, Number, errorRecord, Drop, DropOrder, tells, numberAt, drops, NamedFirst, OtherFirst, octets, errorTag, Reply, ReplyRecord, errorOctets, Tell, Gone, transferReplies, releaseReplies}
+use Rattle.rules.specs.Replies.{told, TellNumber, errorRecord, Drop, DropOrder, tells, numberAt, drops, NamedFirst, OtherFirst, octets, errorTag, Reply, ReplyRecord, errorOctets, Tell, Gone, transferReplies, releaseReplies}
 use Rattle.rules.proofs.Decided.{Decided, refuses, changes-nothing, opens-leg, sets-state, sets-auxiliary, releases, assigns-link-id, transfers, ends-alerting, decided}
 use Rattle.rules.specs.Step.{boardAfter, rowsAfter, candidateAfter, done, replies, refused, step, stepTested, Outcome, decision}
 use Rattle.octets.proofs.Lists.{true-not-false, neither, or-left}
@@ -31,13 +31,13 @@ use Rattle.events.specs.declared.Refusal.the-variants as refusal
 
 -- ---- errors
 
-told-well : (l : ℕ) (a b : Bool) (n : Number) → errorRecord (told l a b n) ≡ false
+told-well : (l : ℕ) (a b : Bool) (n : TellNumber) → errorRecord (told l a b n) ≡ false
 told-well l true true n = refl
 told-well l true false n = refl
 told-well l false true n = refl
 told-well l false false n = refl
 
-transfer-well : (o : Options) (r : ℕ) (i : IntegerOctets) (p q : Party) (order : DropOrder) (numbers : ℕ → Number) → any errorRecord (transferReplies o r i p q order numbers) ≡ false
+transfer-well : (o : Options) (r : ℕ) (i : IntegerOctets) (p q : Party) (order : DropOrder) (numbers : ℕ → TellNumber) → any errorRecord (transferReplies o r i p q order numbers) ≡ false
 unfolding answerOctets
 transfer-well o r i p q order numbers = fine order
   where
@@ -50,7 +50,7 @@ transfer-well o r i p q order numbers = fine order
     fine NamedFirst = last
     fine OtherFirst = last
 
-release-well : (t : Connection) (order : DropOrder) (numbers : ℕ → Number) → any errorRecord (releaseReplies t order numbers) ≡ false
+release-well : (t : Connection) (order : DropOrder) (numbers : ℕ → TellNumber) → any errorRecord (releaseReplies t order numbers) ≡ false
 release-well (WithUser c) order numbers = refl
 release-well (WithPartner p a) order numbers = refl
 

@@ -6,7 +6,7 @@ use Rattle.board.specs.Soundness.{sound, soundRows, soundEntries, validRow}
 use Rattle.board.specs.Making.{fresh}
 use Rattle.board.specs.Changes.{changedRows, rowAfter}
 use Rattle.events.specs.EventRecords.{request}
-use Rattle.rules.specs.Pairing.{pairs}
+use Rattle.rules.specs.Pairing.{callsPair}
 use Rattle.rules.specs.Serving.{serve}
 use Rattle.rules.specs.Checks.{decide}
 use Rattle.rules.specs.Step.{step, stepTested, decision, rowsAfter, candidateAfter, boardAfter, replies}
@@ -15,7 +15,7 @@ use Rattle.rules.specs.History.{boardAt, bookAt, history, returns}
 use Rattle.rules.specs.Examples.{HistoryExamples}
 
 pub history-examples : HistoryExamples
-unfolding firstElement siblings wholeElements reading invokeReading identifiedReading sound soundRows soundEntries validRow fresh changedRows rowAfter request pairs serve decide step stepTested decision rowsAfter candidateAfter boardAfter replies freshBook bookRules bookDecision bookAfter bookStep entriesAfter candidateMoves boardAt bookAt history returns
+unfolding firstElement siblings wholeElements reading invokeReading identifiedReading sound soundRows soundEntries validRow fresh changedRows rowAfter request callsPair serve decide step stepTested decision rowsAfter candidateAfter boardAfter replies freshBook bookRules bookDecision bookAfter bookStep entriesAfter candidateMoves boardAt bookAt history returns
 history-examples = record {
   returned = refl;
   history-is = refl;

@@ -12,14 +12,14 @@ use lib.Dec.{eqb}
 use lib.ListN.{length}
 use lib.IntN.{ℤ, pos, negsuc}
 use Rattle.board.specs.Entries.{taken, linkIds, calls}
-use Rattle.board.specs.LinkIds.{freeLinkId, unlessLive, live}
+use Rattle.board.specs.LinkIds.{freeLinkId, unlessLive, live, mostLinkIds}
 use Rattle.board.specs.declared.Board.{Board}
 use Rattle.rules.proofs.Kept.{live-length, first-not-live}
 use Rattle.rules.specs.LinkIdGiven.{InLinkIdRange, LinkIdGiven}
 use Rattle.rules.specs.Serving.{error, assign}
-use Rattle.octets.proofs.Lists.{true-not-false, eqb-of, eqb-eq, test, neither, both, any-has, any-of, mem-keep, or-false, left, right, is-not}
+use Rattle.octets.proofs.Lists.{true-not-false, eqb-of, eqb-eq, test, neither, both, any-has, any-of, mem-filter, or-false, left, right, is-not}
 use Rattle.octets.proofs.SameInteger.{sameInteger-eq}
-use Rattle.octets.specs.Lists.{all, any, distinct, keep, consIf}
+use Rattle.octets.specs.Lists.{all, any, distinct, filter, consIf}
 use Rattle.octets.specs.Numbers.{nextLinkId, sameInteger}
 
 -- ---- places of the LinkIds from 0 to 65535
@@ -91,14 +91,14 @@ unfolding run
 run-length zero z = refl
 run-length (suc n) z = ap suc (run-length n (nextLinkId z))
 
-run-apart : (m i : ℕ) (z y : ℤ) → 1 ≤ i → i + m ≤ 16 → InLinkIdRange z → InLinkIdRange y → Later i z y → any (sameInteger z) (run m y) ≡ false
+run-apart : (m i : ℕ) (z y : ℤ) → 1 ≤ i → i + m ≤ mostLinkIds → InLinkIdRange z → InLinkIdRange y → Later i z y → any (sameInteger z) (run m y) ≡ false
 unfolding run
 run-apart zero i z y h k hz hy l = refl
 run-apart (suc m) i z y h k hz hy l =
     neither (apart i z y h (omega arith) l)
     (run-apart m (i + 1) z (nextLinkId y) (omega arith) (omega arith) hz (next-in-range y hy) (later-next i z y (omega arith) hz hy l))
 
-run-distinct : (n : ℕ) (z : ℤ) → n ≤ 16 → InLinkIdRange z → distinct sameInteger (run n z) ≡ true
+run-distinct : (n : ℕ) (z : ℤ) → n ≤ mostLinkIds → InLinkIdRange z → distinct sameInteger (run n z) ≡ true
 unfolding run
 run-distinct zero z k h = refl
 run-distinct (suc n) z k h = both (ap not (run-apart n 1 z (nextLinkId z) (le-refl 1) (omega arith) h (next-in-range z h) after)) (run-distinct n (nextLinkId z) (omega arith) (next-in-range z h))
@@ -122,28 +122,28 @@ none-free (suc n) z used e = go (any (sameInteger z) used) refl e (none-free n (
 
 -- ---- values that are all in a list, none twice, are no more than the list has
 
-keep-le : (p : ℤ → Bool) (l : List ℤ) → length (keep p l) ≤ length l
-keep-le p [] = zero-le
-keep-le p (x ∷ l) = go (p x) (keep-le p l)
+filter-le : (p : ℤ → Bool) (l : List ℤ) → length (filter p l) ≤ length l
+filter-le p [] = zero-le
+filter-le p (x ∷ l) = go (p x) (filter-le p l)
   where
-    go : (b : Bool) → length (keep p l) ≤ length l → length (consIf b x (keep p l)) ≤ suc (length l)
+    go : (b : Bool) → length (filter p l) ≤ length l → length (consIf b x (filter p l)) ≤ suc (length l)
     go true h = suc-le-suc h
     go false h = le-step h
 
-fewer : (p : ℤ → Bool) (l : List ℤ) → any p l ≡ true → length (keep (λ (x : ℤ). not (p x)) l) < length l
+fewer : (p : ℤ → Bool) (l : List ℤ) → any p l ≡ true → length (filter (λ (x : ℤ). not (p x)) l) < length l
 fewer p [] h = absurd (true-not-false h refl)
 fewer p (x ∷ l) h = go (p x) h (fewer p l)
   where
-    go : (b : Bool) → (b || any p l) ≡ true → (any p l ≡ true → length (keep (λ (x : ℤ). not (p x)) l) < length l) → length (consIf (not b) x (keep (λ (x : ℤ). not (p x)) l)) < suc (length l)
-    go true h f = suc-le-suc (keep-le (λ (x : ℤ). not (p x)) l)
+    go : (b : Bool) → (b || any p l) ≡ true → (any p l ≡ true → length (filter (λ (x : ℤ). not (p x)) l) < length l) → length (consIf (not b) x (filter (λ (x : ℤ). not (p x)) l)) < suc (length l)
+    go true h f = suc-le-suc (filter-le (λ (x : ℤ). not (p x)) l)
     go false h f = suc-le-suc (f h)
 
-still : (z y : ℤ) (used : List ℤ) → sameInteger z y ≡ false → any (sameInteger y) used ≡ true → any (sameInteger y) (keep (λ (x : ℤ). not (sameInteger z x)) used) ≡ true
+still : (z y : ℤ) (used : List ℤ) → sameInteger z y ≡ false → any (sameInteger y) used ≡ true → any (sameInteger y) (filter (λ (x : ℤ). not (sameInteger z x)) used) ≡ true
 still z y used h k =
     let r = any-has (sameInteger y) used k in
-    any-of (sameInteger y) (mem-keep (λ (x : ℤ). not (sameInteger z x)) (r .1) (ap (λ (x : ℤ). not (sameInteger z x)) (sym (sameInteger-eq y (r .0) (r .2))) ∙ ap not h)) (r .2)
+    any-of (sameInteger y) (mem-filter (λ (x : ℤ). not (sameInteger z x)) (r .1) (ap (λ (x : ℤ). not (sameInteger z x)) (sym (sameInteger-eq y (r .0) (r .2))) ∙ ap not h)) (r .2)
 
-all-still : (z : ℤ) (ys used : List ℤ) → any (sameInteger z) ys ≡ false → all (λ (y : ℤ). any (sameInteger y) used) ys ≡ true → all (λ (y : ℤ). any (sameInteger y) (keep (λ (x : ℤ). not (sameInteger z x)) used)) ys ≡ true
+all-still : (z : ℤ) (ys used : List ℤ) → any (sameInteger z) ys ≡ false → all (λ (y : ℤ). any (sameInteger y) used) ys ≡ true → all (λ (y : ℤ). any (sameInteger y) (filter (λ (x : ℤ). not (sameInteger z x)) used)) ys ≡ true
 all-still z [] used h k = refl
 all-still z (y ∷ ys) used h k =
     let r = or-false (sameInteger z y) (any (sameInteger z) ys) h in
@@ -152,11 +152,11 @@ all-still z (y ∷ ys) used h k =
 no-more : (ys used : List ℤ) → distinct sameInteger ys ≡ true → all (λ (y : ℤ). any (sameInteger y) used) ys ≡ true → length ys ≤ length used
 no-more [] used h k = zero-le
 no-more (y ∷ ys) used h k =
-    le-trans (suc-le-suc (no-more ys (keep (λ (x : ℤ). not (sameInteger y x)) used) (right (not (any (sameInteger y) ys)) _ h) (all-still y ys used (is-not (left (not (any (sameInteger y) ys)) _ h)) (right (any (sameInteger y) used) _ k))))
+    le-trans (suc-le-suc (no-more ys (filter (λ (x : ℤ). not (sameInteger y x)) used) (right (not (any (sameInteger y) ys)) _ h) (all-still y ys used (is-not (left (not (any (sameInteger y) ys)) _ h)) (right (any (sameInteger y) used) _ k))))
     (fewer (sameInteger y) used (left (any (sameInteger y) used) _ k))
 
 -- with fewer than n live, n values hold one that is not
-found : (n : ℕ) (z : ℤ) (used : List ℤ) → n ≤ 16 → InLinkIdRange z → length used < n → (y : ℤ) × (freeLinkId n z used ≡ some y)
+found : (n : ℕ) (z : ℤ) (used : List ℤ) → n ≤ mostLinkIds → InLinkIdRange z → length used < n → (y : ℤ) × (freeLinkId n z used ≡ some y)
 found n z used top h k = go (freeLinkId n z used) refl
   where
     go : (o : Option ℤ) → freeLinkId n z used ≡ o → (y : ℤ) × (freeLinkId n z used ≡ some y)
@@ -166,17 +166,17 @@ found n z used top h k = go (freeLinkId n z used) refl
         absurd (omega arith)
     go (some y) e = (y, e)
 
-module _ (z : ℤ) (used : List ℤ) (h : InLinkIdRange z) (few : length used < 16) where
-  one-free : (y : ℤ) × (freeLinkId 16 z used ≡ some y)
-  one-free = found 16 z used (le-refl 16) h few
+module _ (z : ℤ) (used : List ℤ) (h : InLinkIdRange z) (few : length used < mostLinkIds) where
+  one-free : (y : ℤ) × (freeLinkId mostLinkIds z used ≡ some y)
+  one-free = found mostLinkIds z used (le-refl mostLinkIds) h few
 
   gives : LinkIdGiven z used
   gives = record {
     value = one-free .0;
-    first = first-not-live 16 z used (one-free .1);
-    given = λ i. ap (λ (b : Bool). cond b (error i 11) (assign i (freeLinkId 16 z used))) (lt-leb 16 (length used) few) ∙ ap (assign i) (one-free .1);
+    first = first-not-live mostLinkIds z used (one-free .1);
+    given = λ i. ap (λ (b : Bool). cond b (error i 11) (assign i (freeLinkId mostLinkIds z used))) (lt-leb mostLinkIds (length used) few) ∙ ap (assign i) (one-free .1);
   }
 
 -- on every board, sound or not, while fewer than 16 LinkIds are live a call that has none is given the first value that is not live
-pub link-id-given : (b : Board) → InLinkIdRange (b .candidate .0) → linkIds (taken (b .rows)) < 16 → LinkIdGiven (b .candidate .0) (live (calls (taken (b .rows))))
-link-id-given b h few = gives (b .candidate .0) (live (calls (taken (b .rows)))) h (subst⁻¹ (λ (n : ℕ). n < 16) (live-length (taken (b .rows))) few)
+pub link-id-given : (b : Board) → InLinkIdRange (b .candidate .0) → linkIds (taken (b .rows)) < mostLinkIds → LinkIdGiven (b .candidate .0) (live (calls (taken (b .rows))))
+link-id-given b h few = gives (b .candidate .0) (live (calls (taken (b .rows)))) h (subst⁻¹ (λ (n : ℕ). n < mostLinkIds) (live-length (taken (b .rows))) few)

@@ -17,7 +17,7 @@ use Rattle.board.specs.declared.Connection.the-variants.{WithUser, WithPartner}
 use Rattle.board.specs.declared.Entry.{Entry}
 use Rattle.board.specs.declared.Party.{Party}
 use Rattle.board.specs.Entries.{entry, calls, partyOf, hasLeg, hasReference, referenceOf, linkIds, linked, linkIdOf, linkIdIn, present, hasLinkId, isLinkId, isNumber, isPartner, hasPartyReference}
-use Rattle.board.specs.LinkIds.{freeLinkId, unlessLive, live}
+use Rattle.board.specs.LinkIds.{freeLinkId, unlessLive, live, mostLinkIds}
 use Rattle.board.specs.Soundness.{answersTo, partnered, joinedBack, validPartner, sameLinkIds, validEntry, sameLegs, sameReferences, sameNumbers, validConnection, sameLinkIdsIn}
 use Rattle.board.specs.States.{validReference, validCall, validDirection, holdable, idle, delivered, sameState, active, outgoing}
 use Rattle.board.specs.declared.AuxiliaryState.{AuxiliaryState}
@@ -32,13 +32,13 @@ use Rattle.rules.proofs.Order.{calls-one}
 use Rattle.rules.specs.Book.{mapConnection, changeCall, endAlerting, joinLegs, entriesAfter}
 use Rattle.rules.specs.Checks.{opened, named, mayProgress, decide, Decision, Apply, releaseOf, changeOf}
 use Rattle.events.specs.EventRecords.{Request, inRange}
-use Rattle.rules.specs.Pairing.{verdict, pairs, heldWithIdle}
+use Rattle.rules.specs.Pairing.{verdict, callsPair, heldWithIdle}
 use Rattle.rules.specs.Serving.{sameCall, partnerFor}
 use Rattle.rules.specs.LinkIdGiven.{upward, FirstNotLive}
-use Rattle.octets.proofs.Lists.{pick-mem, mem-pick, any-has, right, all-at, true-not-false, eqb-eq, left, is-not, both, any-of, eqb-self, none-by, or-right, all-by, any-map, any-ext, distinct-map, all-map, all-ext}
-use Rattle.octets.proofs.Lists.{map-mem, length-keep-map, small-mem, find-mem, mem-keep, test, or-false, none-of, or-left, is-true, keep-map-le, from-true, eqb-of, neither, keep-mem, distinct-keep, keep-keep-le, mem-map, keep-none, eqb-sym}
+use Rattle.octets.proofs.Lists.{filterMap-mem, mem-filterMap, any-has, right, all-at, true-not-false, eqb-eq, left, is-not, both, any-of, eqb-self, none-by, or-right, all-by, any-map, any-ext, distinct-map, all-map, all-ext}
+use Rattle.octets.proofs.Lists.{map-mem, length-filter-map, small-mem, find-mem, mem-filter, test, or-false, none-of, or-left, is-true, filter-map-le, from-true, eqb-of, neither, filter-mem, distinct-filter, filter-filter-le, mem-map, filter-none, eqb-sym}
 use Rattle.octets.proofs.SameInteger.{sameInteger-eq, sameInteger-self}
-use Rattle.octets.specs.Lists.{any, distinct, keep, consOpt, consIf}
+use Rattle.octets.specs.Lists.{any, distinct, filter, consOpt, consIf}
 use Rattle.octets.specs.Numbers.{sameInteger, nextLinkId}
 use Rattle.octets.specs.declared.LinkId.{LinkId}
 use Rattle.board.proofs.FreeLinkIds.{live-any}
@@ -50,7 +50,7 @@ entry-path p q = λ i. record { leg = p i; connection = q i }
 
 -- the calls are the entries with a call
 pub party-mem : (es : List Entry) {p : Party} → List·Memᴰ p (calls es) → List·Memᴰ (entry (p .leg) (WithUser (p .call))) es
-party-mem es {p} m = go (pick-mem (λ (e : Entry). partyOf (e .leg) (e .connection)) es m)
+party-mem es {p} m = go (filterMap-mem (λ (e : Entry). partyOf (e .leg) (e .connection)) es m)
   where
     is : (n : ℕ) (t : Connection) → partyOf n t ≡ some p → entry n t ≡ entry (p .leg) (WithUser (p .call))
     is n (WithUser c) h = let d : record { leg = n; call = c } ≡ p = cc in ap (λ (q : Party). entry (q .leg) (WithUser (q .call))) d
@@ -60,7 +60,7 @@ party-mem es {p} m = go (pick-mem (λ (e : Entry). partyOf (e .leg) (e .connecti
     go r = subst (λ (e : Entry). List·Memᴰ e es) (is (r .0 .leg) (r .0 .connection) (r .2)) (r .1)
 
 pub mem-party : {es : List Entry} {n : ℕ} {c : Call} → List·Memᴰ (entry n (WithUser c)) es → List·Memᴰ (record { leg = n; call = c }) (calls es)
-mem-party m = mem-pick (λ (e : Entry). partyOf (e .leg) (e .connection)) m refl
+mem-party m = mem-filterMap (λ (e : Entry). partyOf (e .leg) (e .connection)) m refl
 
 -- a joined entry's partner
 pub mate-of : {es : List Entry} → Sound es → (n p : ℕ) (a : Bool) → List·Memᴰ (entry n (WithPartner p a)) es →
@@ -139,7 +139,7 @@ module _ (r : ℕ) (f : Call → Call) (same : (c : Call) → f c .reference .0 
       (λ e. ap (λ (b : Bool). eqb p (e .leg) && b) (answers-kept n p a (e .leg) (e .connection))))
 
   pub call-sound : (es : List Entry) → Sound es → ((n : ℕ) (c : Call) → List·Memᴰ (entry n (WithUser c)) es → eqb r (c .reference .0) ≡ true → validCall (f c) ≡ true) →
-      distinct sameLinkIds (map changed es) ≡ true → leb (linkIds (map changed es)) 16 ≡ true → Sound (map changed es)
+      distinct sameLinkIds (map changed es) ≡ true → leb (linkIds (map changed es)) mostLinkIds ≡ true → Sound (map changed es)
   call-sound es s ok l w = record {
     rights = all-by validEntry (map changed es) each;
     legs = distinct-map sameLegs changed es (λ e g t. t) (s .legs);
@@ -176,15 +176,15 @@ module _ (r : ℕ) (f : Call → Call) (same : (c : Call) → f c .reference .0 
     plain-sound es s ok =
         call-sound es s ok
         (distinct-map sameLinkIds changed es (λ e g t. sym (ap₂ sameLinkIdsIn (link-kept (e .leg) (e .connection)) (link-kept (g .leg) (g .connection))) ∙ t) (s .lids))
-        (ap (λ (n : ℕ). leb n 16) (length-keep-map linked linked changed es (λ e. ap present (link-kept (e .leg) (e .connection)))) ∙ s .few)
+        (ap (λ (n : ℕ). leb n mostLinkIds) (length-filter-map linked linked changed es (λ e. ap present (link-kept (e .leg) (e .connection)))) ∙ s .few)
 
 -- the named call is the one with the reference
 pub the-named : {es : List Entry} → Sound es → (r : ℕ) {p : Party} → named r es ≡ some p → (n : ℕ) (c : Call) → List·Memᴰ (entry n (WithUser c)) es → eqb r (c .reference .0) ≡ true →
     p ≡ record { leg = n; call = c }
 the-named {es} s r {p} e n c m h =
-    small-mem (keep (hasPartyReference r) (calls es)) (calls-one r s)
-    (let u = find-mem (hasPartyReference r) (calls es) e in mem-keep (hasPartyReference r) (u .0) (u .1))
-    (mem-keep (hasPartyReference r) (mem-party m) h)
+    small-mem (filter (hasPartyReference r) (calls es)) (calls-one r s)
+    (let u = find-mem (hasPartyReference r) (calls es) e in mem-filter (hasPartyReference r) (u .0) (u .1))
+    (mem-filter (hasPartyReference r) (mem-party m) h)
 
 -- a call that is Idle, or can be held, can be held or is Idle afterwards too
 more : (a i : Bool) → (a && (i || false)) ≡ true → (a && (i || true)) ≡ true
@@ -260,11 +260,11 @@ pub live-length : (es : List Entry) → length (live (calls es)) ≡ linkIds es
 live-length [] = refl
 live-length (e ∷ es) = go (e .leg) (e .connection) (live-length es)
   where
-    link : (o : Option ℤ) → length (live (calls es)) ≡ linkIds es → length (consOpt o (live (calls es))) ≡ length (consIf (present o) e (keep linked es))
+    link : (o : Option ℤ) → length (live (calls es)) ≡ linkIds es → length (consOpt o (live (calls es))) ≡ length (consIf (present o) e (filter linked es))
     link none h = h
     link (some y) h = ap suc h
 
-    go : (n : ℕ) (t : Connection) → length (live (calls es)) ≡ linkIds es → length (live (consOpt (partyOf n t) (calls es))) ≡ length (consIf (present (linkIdOf t)) e (keep linked es))
+    go : (n : ℕ) (t : Connection) → length (live (calls es)) ≡ linkIds es → length (live (consOpt (partyOf n t) (calls es))) ≡ length (consIf (present (linkIdOf t)) e (filter linked es))
     go n (WithUser c) h = link (linkIdIn (c .link)) h
     go n (WithPartner p a) h = h
 
@@ -327,17 +327,17 @@ module _ (r : ℕ) (z : ℤ) where
       go true o t = or-right (present o) true refl
       go false o t = or-left (present o) false t
 
-  pub gives-sound : (es : List Entry) → Sound es → leb 16 (length (live (calls es))) ≡ false → any (sameInteger z) (live (calls es)) ≡ false → Sound (map given es)
+  pub gives-sound : (es : List Entry) → Sound es → leb mostLinkIds (length (live (calls es))) ≡ false → any (sameInteger z) (live (calls es)) ≡ false → Sound (map given es)
   gives-sound es s few free =
       call-sound r (withLinkId (linkId z)) (λ c. refl) es s (λ n c m k. all-at validEntry m (s .rights))
       (given-lids es (s .refs) (s .lids) (sym (live-any z es) ∙ free))
-      (is-true (leb (linkIds (map given es)) 16) (le→leb (linkIds (map given es)) 16 (le-trans (keep-map-le linked linked (hasReference r) given es given-linked) bound)))
+      (is-true (leb (linkIds (map given es)) mostLinkIds) (le→leb (linkIds (map given es)) mostLinkIds (le-trans (filter-map-le linked linked (hasReference r) given es given-linked) bound)))
     where
-      below : linkIds es < 16
-      below = nleb→lt 16 (linkIds es) (from-true (ap (λ (n : ℕ). not (leb 16 n)) (sym (live-length es)) ∙ ap not few))
+      below : linkIds es < mostLinkIds
+      below = nleb→lt mostLinkIds (linkIds es) (from-true (ap (λ (n : ℕ). not (leb mostLinkIds n)) (sym (live-length es)) ∙ ap not few))
 
-      bound : linkIds es + length (keep (hasReference r) es) ≤ 16
-      bound = let one : length (keep (hasReference r) es) ≤ 1 = refs-one r s in omega (arith, below)
+      bound : linkIds es + length (filter (hasReference r) es) ≤ mostLinkIds
+      bound = let one : length (filter (hasReference r) es) ≤ 1 = refs-one r s in omega (arith, below)
 
 -- ---- Release
 
@@ -345,7 +345,7 @@ module _ (r : ℕ) (z : ℤ) where
 abbrev pub remains : Entry → Entry → Bool
 remains e f = not (eqb (f .leg) (e .leg) || isPartner (f .leg) (e .connection))
 
-pub released : (n : ℕ) (t : Connection) (es : List Entry) → entriesAfter (some (Apply (releaseOf n t))) es ≡ keep (remains (entry n t)) es
+pub released : (n : ℕ) (t : Connection) (es : List Entry) → entriesAfter (some (Apply (releaseOf n t))) es ≡ filter (remains (entry n t)) es
 unfolding entriesAfter
 released n (WithUser c) es = refl
 released n (WithPartner p a) es = refl
@@ -381,22 +381,22 @@ module _ (es : List Entry) (s : Sound es) (e₀ : Entry) (here : List·Memᴰ e�
       go (inr t) (inl u) = absurd (other (e₀ .leg) (e₀ .connection) here u (out .0))
       go (inr t) (inr u) = ap not (neither t u)
 
-  strikes-sound : Sound (keep (remains e₀) es)
+  strikes-sound : Sound (filter (remains e₀) es)
   strikes-sound = record {
-    rights = all-by validEntry (keep (remains e₀) es) (λ x m. all-at validEntry (keep-mem (remains e₀) es m .0) (s .rights));
-    legs = distinct-keep sameLegs (remains e₀) es (s .legs);
-    refs = distinct-keep sameReferences (remains e₀) es (s .refs);
-    lids = distinct-keep sameLinkIds (remains e₀) es (s .lids);
-    few = is-true (leb (linkIds (keep (remains e₀) es)) 16) (le→leb _ 16 (le-trans (keep-keep-le linked (remains e₀) es) (leb→le (linkIds es) 16 (from-true (s .few)))));
-    mates = all-by (partnered (keep (remains e₀) es)) (keep (remains e₀) es) (λ x m. let r = keep-mem (remains e₀) es m in connection (x .leg) (x .connection) (r .0) (r .1));
+    rights = all-by validEntry (filter (remains e₀) es) (λ x m. all-at validEntry (filter-mem (remains e₀) es m .0) (s .rights));
+    legs = distinct-filter sameLegs (remains e₀) es (s .legs);
+    refs = distinct-filter sameReferences (remains e₀) es (s .refs);
+    lids = distinct-filter sameLinkIds (remains e₀) es (s .lids);
+    few = is-true (leb (linkIds (filter (remains e₀) es)) mostLinkIds) (le→leb _ mostLinkIds (le-trans (filter-filter-le linked (remains e₀) es) (leb→le (linkIds es) mostLinkIds (from-true (s .few)))));
+    mates = all-by (partnered (filter (remains e₀) es)) (filter (remains e₀) es) (λ x m. let r = filter-mem (remains e₀) es m in connection (x .leg) (x .connection) (r .0) (r .1));
   }
     where
-      connection : (n : ℕ) (t : Connection) → List·Memᴰ (entry n t) es → remains e₀ (entry n t) ≡ true → validPartner (keep (remains e₀) es) n t ≡ true
+      connection : (n : ℕ) (t : Connection) → List·Memᴰ (entry n t) es → remains e₀ (entry n t) ≡ true → validPartner (filter (remains e₀) es) n t ≡ true
       connection n (WithUser c) m h = refl
       connection n (WithPartner p a) m h = go (mate-of s n p a m)
         where
-          go : (b : Bool) × List·Memᴰ (entry p (WithPartner n b)) es × (eqb n p ≡ false) × ((a && b) ≡ false) → validPartner (keep (remains e₀) es) n (WithPartner p a) ≡ true
-          go r = partner-in n p a (r .0) (mem-keep (remains e₀) (r .1) (stays-with n p a (r .0) m (r .1) h)) (r .2) (r .3)
+          go : (b : Bool) × List·Memᴰ (entry p (WithPartner n b)) es × (eqb n p ≡ false) × ((a && b) ≡ false) → validPartner (filter (remains e₀) es) n (WithPartner p a) ≡ true
+          go r = partner-in n p a (r .0) (mem-filter (remains e₀) (r .1) (stays-with n p a (r .0) m (r .1) h)) (r .2) (r .3)
 
 -- ---- Answer
 
@@ -428,7 +428,7 @@ module _ (l : ℕ) (es : List Entry) (s : Sound es) where
     legs = distinct-map sameLegs stopped es (λ e g t. t) (s .legs);
     refs = distinct-map sameReferences stopped es (λ e g t. sym (ap₂ sameNumbers (stopped-ref (e .leg) (e .connection)) (stopped-ref (g .leg) (g .connection))) ∙ t) (s .refs);
     lids = distinct-map sameLinkIds stopped es (λ e g t. sym (ap₂ sameLinkIdsIn (stopped-link (e .leg) (e .connection)) (stopped-link (g .leg) (g .connection))) ∙ t) (s .lids);
-    few = ap (λ (n : ℕ). leb n 16) (length-keep-map linked linked stopped es (λ e. ap present (stopped-link (e .leg) (e .connection)))) ∙ s .few;
+    few = ap (λ (n : ℕ). leb n mostLinkIds) (length-filter-map linked linked stopped es (λ e. ap present (stopped-link (e .leg) (e .connection)))) ∙ s .few;
     mates = all-map (partnered (map stopped es)) stopped es ∙ all-by (λ (e : Entry). partnered (map stopped es) (stopped e)) es (λ e m. connection (e .leg) (e .connection) m);
   }
     where
@@ -513,14 +513,14 @@ module _ (es : List Entry) (s : Sound es) (p q : Party) (mp : List·Memᴰ p (ca
     legs = distinct-map sameLegs tied es (λ e g t. t) (s .legs);
     refs = distinct-map sameReferences tied es tied-refs (s .refs);
     lids = distinct-map sameLinkIds tied es tied-lids (s .lids);
-    few = is-true (leb (linkIds (map tied es)) 16) (le→leb _ 16 (le-trans (keep-map-le linked linked (λ (e : Entry). false) tied es tied-linked) bound));
+    few = is-true (leb (linkIds (map tied es)) mostLinkIds) (le→leb _ mostLinkIds (le-trans (filter-map-le linked linked (λ (e : Entry). false) tied es tied-linked) bound));
     mates = all-map (partnered (map tied es)) tied es ∙ all-by (λ (e : Entry). partnered (map tied es) (tied e)) es (λ e m. connection (e .leg) (e .connection) m);
   }
     where
-      bound : linkIds es + length (keep (λ (e : Entry). false) es) ≤ 16
+      bound : linkIds es + length (filter (λ (e : Entry). false) es) ≤ mostLinkIds
       bound =
-          let none-kept : length (keep (λ (e : Entry). false) es) ≡ 0 = ap length (keep-none (λ (e : Entry). false) es (no-links es)) in
-          let h : linkIds es ≤ 16 = leb→le (linkIds es) 16 (from-true (s .few)) in
+          let none-kept : length (filter (λ (e : Entry). false) es) ≡ 0 = ap length (filter-none (λ (e : Entry). false) es (no-links es)) in
+          let h : linkIds es ≤ mostLinkIds = leb→le (linkIds es) mostLinkIds (from-true (s .few)) in
           omega arith
 
       connection : (n : ℕ) (t : Connection) → List·Memᴰ (entry n t) es → validPartner (map tied es) n (joinLegs (p .leg) (q .leg) n t) ≡ true
@@ -564,8 +564,8 @@ no-verdict true false false dc dd oc od x y = refl
 no-verdict false false false dc dd oc od x y = refl
 
 -- two calls that pair are not both Delivered
-pub not-both-ring : (opt : Options) (c d : Call) → pairs opt c d ≡ true → (delivered c && delivered d) ≡ false
-unfolding pairs
+pub not-both-ring : (opt : Options) (c d : Call) → callsPair opt c d ≡ true → (delivered c && delivered d) ≡ false
+unfolding callsPair
 not-both-ring opt c d h = go (test (delivered c && delivered d))
   where
     go : ((delivered c && delivered d) ≡ true) ⊎ ((delivered c && delivered d) ≡ false) → (delivered c && delivered d) ≡ false
@@ -603,7 +603,7 @@ kept-by es s k (opens-leg {r = r} {l = l} {d = d} e f g) = enters-sound es l r d
 kept-by es s k (sets-state {r = r} {s = t} e h) = moves-sound es s r t e h
 kept-by es s k (sets-auxiliary {r = r} {a = x} {p = p} e h) = holds-sound es s r x e (left (holdable (p .call .state)) _ h)
 kept-by es s k (releases {e = e} m h) = subst⁻¹ Sound (released (e .leg) (e .connection) es) (strikes-sound es s e m)
-kept-by {z} es s k (assigns-link-id {p = p} i m e h) = gives-sound (p .call .reference .0) _ es s h (first-not-live 16 z (live (calls es)) e .not-live)
+kept-by {z} es s k (assigns-link-id {p = p} i m e h) = gives-sound (p .call .reference .0) _ es s h (first-not-live mostLinkIds z (live (calls es)) e .not-live)
 kept-by {opt} es s k (transfers {p = p} {o = q} i m n h) = pair-sound es s opt p q m n h
 kept-by es s k (ends-alerting {l = l}) = stops-sound l es s
 

@@ -12,7 +12,7 @@ use Rattle.board.specs.Soundness.{validDigits}
 use Rattle.component.proofs.Length.{answer-length}
 use Rattle.component.specs.Answers.{answerOctets}
 use Rattle.component.specs.declared.Answer.{Answer}
-use Rattle.rules.specs.Replies.{recordOctets, Reply, Tell, Number, told, ReplyRecord, octets, drops, DropOrder, NamedFirst, OtherFirst, Written, nothing, replied}
+use Rattle.rules.specs.Replies.{recordOctets, Reply, Tell, TellNumber, told, ReplyRecord, octets, drops, DropOrder, NamedFirst, OtherFirst, Written, nothing, replied}
 
 pub reply-length : (r : ℕ) (a : Answer) → length (recordOctets (Reply r a)) ≡ 36
 reply-length r a =
@@ -21,7 +21,7 @@ reply-length r a =
     let h = answer-length a in
     omega arith
 
-told-length : (l : ℕ) (a b : Bool) (n : Number) → length (n .digits) ≡ 15 → length (recordOctets (told l a b n)) ≡ 25
+told-length : (l : ℕ) (a b : Bool) (n : TellNumber) → length (n .digits) ≡ 15 → length (recordOctets (told l a b n)) ≡ 25
 told-length l false false n h = omega arith
 told-length l false true n h = refl
 told-length l true b n h = omega arith
@@ -35,7 +35,7 @@ unfolding octets
 drops-length NamedFirst a b rest = omega arith
 drops-length OtherFirst a b rest = omega arith
 
-pub tells-length : (l m : ℕ) (a b : Bool) (n k : Number) → length (n .digits) ≡ 15 → length (k .digits) ≡ 15 → length (octets (told l a b n ∷ told m b a k ∷ [])) ≡ 50
+pub tells-length : (l m : ℕ) (a b : Bool) (n k : TellNumber) → length (n .digits) ≡ 15 → length (k .digits) ≡ 15 → length (octets (told l a b n ∷ told m b a k ∷ [])) ≡ 50
 unfolding octets
 tells-length l m a b n k h j =
     let e = length-append (recordOctets (told l a b n)) (octets (told m b a k ∷ [])) in
@@ -57,7 +57,7 @@ fifteen n ds h =
 
 -- what is written fits, where each number has 15 digits
 pub record Short (w : Written) : Type 0 where
-  pub fits : (order : DropOrder) (numbers : ℕ → Number) → ((l : ℕ) → length (numbers l .digits) ≡ 15) → length (octets (w order numbers)) ≤ 92
+  pub fits : (order : DropOrder) (numbers : ℕ → TellNumber) → ((l : ℕ) → length (numbers l .digits) ≡ 15) → length (octets (w order numbers)) ≤ 92
 
 pub nothing-short : Short nothing
 unfolding octets
@@ -67,6 +67,6 @@ pub reply-short : (r : ℕ) (a : Answer) → Short (replied r a)
 reply-short r a = record { fits = λ order numbers k. omega (arith, one-length (Reply r a), reply-length r a) }
 
 -- one Tell, with a number of 15 digits
-pub tell-short : (l m d : ℕ) (number : (ℕ → Number) → Number) (s : ℕ) → ((numbers : ℕ → Number) → ((l : ℕ) → length (numbers l .digits) ≡ 15) → length (number numbers .digits) ≡ 15) →
+pub tell-short : (l m d : ℕ) (number : (ℕ → TellNumber) → TellNumber) (s : ℕ) → ((numbers : ℕ → TellNumber) → ((l : ℕ) → length (numbers l .digits) ≡ 15) → length (number numbers .digits) ≡ 15) →
     Short (λ order numbers. Tell l m d (number numbers) s ∷ [])
 tell-short l m d number s h = record { fits = λ order numbers k. omega (arith, h numbers k, one-length (Tell l m d (number numbers) s)) }

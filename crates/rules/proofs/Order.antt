@@ -14,7 +14,7 @@ use Rattle.board.specs.declared.Connection.the-variants.{WithUser, WithPartner}
 use Rattle.board.specs.declared.Entry.{Entry}
 use Rattle.board.specs.declared.Party.{Party}
 use Rattle.board.specs.Entries.{partyOf, isNumber, referenceOf, calls, hasReference, isLinkId, linkIdOf, hasLinkId, hasLeg, hasPartyReference, linkIdIn, hasPartyLinkId}
-use Rattle.board.specs.LinkIds.{freeLinkId, unlessLive, live}
+use Rattle.board.specs.LinkIds.{freeLinkId, unlessLive, live, mostLinkIds}
 use Rattle.board.specs.declared.Options.{Options}
 use Rattle.component.specs.Reading.{reading}
 use Rattle.component.specs.declared.Operation.{Operation}
@@ -24,8 +24,8 @@ use Rattle.component.specs.declared.Reading.the-variants.{Ignored, Rejected, In
 use Rattle.rules.specs.Checks.{named, decide, entryAt, decideFacility, serviceDecision, decideOpen, opening, decideProgress, decideHold, decideRelease, decideAnswer}
 use Rattle.events.specs.EventRecords.{Request, Facility, Malformed, Open, Progress, Hold, Release, Answer}
 use Rattle.rules.specs.Serving.{linkIdRequest, newLinkId, perform, execute, partnerFor, executeExplicitly, serve, ifSubscribed}
-use Rattle.octets.proofs.Lists.{keep-pick-le, Perm, length-perm, pick-perm, any-perm, only-perm, keep-perm, find-perm}
-use Rattle.octets.specs.Lists.{keep, any}
+use Rattle.octets.proofs.Lists.{filter-filterMap-le, Perm, length-perm, filterMap-perm, any-perm, only-perm, filter-perm, find-perm}
+use Rattle.octets.specs.Lists.{filter, any}
 use Rattle.octets.specs.Numbers.{sameInteger, nextLinkId}
 use Rattle.octets.specs.declared.IntegerOctets.{IntegerOctets}
 use Rattle.octets.specs.Tests.{has}
@@ -37,17 +37,17 @@ namedIs : (r n : ℕ) (t : Connection) → has (hasPartyReference r) (partyOf n 
 namedIs r n (WithUser c) = refl
 namedIs r n (WithPartner p a) = refl
 
-pub calls-one : (r : ℕ) {es : List Entry} → Sound es → length (keep (hasPartyReference r) (calls es)) ≤ 1
+pub calls-one : (r : ℕ) {es : List Entry} → Sound es → length (filter (hasPartyReference r) (calls es)) ≤ 1
 calls-one r {es} s =
-    le-trans (keep-pick-le (hasPartyReference r) (λ (e : Entry). partyOf (e .leg) (e .connection)) (hasReference r) es (λ e. namedIs r (e .leg) (e .connection))) (refs-one r s)
+    le-trans (filter-filterMap-le (hasPartyReference r) (λ (e : Entry). partyOf (e .leg) (e .connection)) (hasReference r) es (λ e. namedIs r (e .leg) (e .connection))) (refs-one r s)
 
 linkIs : (z : ℤ) (n : ℕ) (t : Connection) → has (hasPartyLinkId z) (partyOf n t) ≡ isLinkId z (linkIdOf t)
 linkIs z n (WithUser c) = refl
 linkIs z n (WithPartner p a) = refl
 
-links-one : (z : ℤ) {es : List Entry} → Sound es → length (keep (hasPartyLinkId z) (calls es)) ≤ 1
+links-one : (z : ℤ) {es : List Entry} → Sound es → length (filter (hasPartyLinkId z) (calls es)) ≤ 1
 links-one z {es} s =
-    le-trans (keep-pick-le (hasPartyLinkId z) (λ (e : Entry). partyOf (e .leg) (e .connection)) (hasLinkId z) es (λ e. linkIs z (e .leg) (e .connection))) (lids-one z s)
+    le-trans (filter-filterMap-le (hasPartyLinkId z) (λ (e : Entry). partyOf (e .leg) (e .connection)) (hasLinkId z) es (λ e. linkIs z (e .leg) (e .connection))) (lids-one z s)
 
 -- ---- what is decided does not turn on the order
 
@@ -58,14 +58,14 @@ freeLink-same u v h (suc n) z = ap₂ (λ (b : Bool) (o : Option ℤ). unlessLiv
 request-perm : {l m : List Party} → Perm l m → (z : ℤ) (i : IntegerOctets) (o : Option ℤ) → linkIdRequest z (live l) i o ≡ linkIdRequest z (live m) i o
 request-perm {l} {m} p z i none =
     ap₂ (λ (n : ℕ) (f : Option ℤ). newLinkId n i f)
-    (length-perm (pick-perm (λ (q : Party). linkIdIn (q .call .link)) p))
-    (freeLink-same (live l) (live m) (λ y. any-perm (sameInteger y) (pick-perm (λ (q : Party). linkIdIn (q .call .link)) p)) 16 z)
+    (length-perm (filterMap-perm (λ (q : Party). linkIdIn (q .call .link)) p))
+    (freeLink-same (live l) (live m) (λ y. any-perm (sameInteger y) (filterMap-perm (λ (q : Party). linkIdIn (q .call .link)) p)) mostLinkIds z)
 request-perm p z i (some y) = refl
 
 perform-perm : {l m : List Entry} → Sound l → Perm l m → (opt : Options) (z : ℤ) (p : Party) (i : IntegerOctets) (o : Operation) → perform opt z (calls l) p i o ≡ perform opt z (calls m) p i o
-perform-perm s h opt z p i EctExecute = ap (execute p i) (only-perm (keep-perm (partnerFor opt p) (pick-perm (λ (e : Entry). partyOf (e .leg) (e .connection)) h)))
-perform-perm s h opt z p i (ExplicitEctExecute y) = ap (executeExplicitly opt p i) (find-perm (hasPartyLinkId (y .0)) (pick-perm (λ (e : Entry). partyOf (e .leg) (e .connection)) h) (links-one (y .0) s))
-perform-perm s h opt z p i EctLinkIdRequest = request-perm (pick-perm (λ (e : Entry). partyOf (e .leg) (e .connection)) h) z i (linkIdIn (p .call .link))
+perform-perm s h opt z p i EctExecute = ap (execute p i) (only-perm (filter-perm (partnerFor opt p) (filterMap-perm (λ (e : Entry). partyOf (e .leg) (e .connection)) h)))
+perform-perm s h opt z p i (ExplicitEctExecute y) = ap (executeExplicitly opt p i) (find-perm (hasPartyLinkId (y .0)) (filterMap-perm (λ (e : Entry). partyOf (e .leg) (e .connection)) h) (links-one (y .0) s))
+perform-perm s h opt z p i EctLinkIdRequest = request-perm (filterMap-perm (λ (e : Entry). partyOf (e .leg) (e .connection)) h) z i (linkIdIn (p .call .link))
 
 serve-perm : {l m : List Entry} → Sound l → Perm l m → (opt : Options) (z : ℤ) (p : Party) (r : Reading) → serve opt z (calls l) p r ≡ serve opt z (calls m) p r
 unfolding serve
@@ -74,7 +74,7 @@ serve-perm v h opt z p (Rejected i) = refl
 serve-perm v h opt z p (Invoked i o) = ap (ifSubscribed opt i) (perform-perm v h opt z p i o)
 
 named-perm : {l m : List Entry} → Sound l → Perm l m → (r : ℕ) → named r l ≡ named r m
-named-perm v h r = find-perm (hasPartyReference r) (pick-perm (λ (e : Entry). partyOf (e .leg) (e .connection)) h) (calls-one r v)
+named-perm v h r = find-perm (hasPartyReference r) (filterMap-perm (λ (e : Entry). partyOf (e .leg) (e .connection)) h) (calls-one r v)
 
 entry-perm : {l m : List Entry} → Sound l → Perm l m → (n : ℕ) → entryAt n l ≡ entryAt n m
 entry-perm v h n = find-perm (hasLeg n) h (legs-one n v)

@@ -28,8 +28,8 @@ use Rattle.rules.specs.Book.{Book, bookDecision, mapConnection, changeCa
 use Rattle.rules.specs.Checks.{BoardChange, Enter, Apply, Decision, Refuse, opened, releaseOf, returnedBy, changeOf}
 use Rattle.events.specs.EventRecords.{Request, request}
 use Rattle.rules.specs.History.{Event, booked, bookAt, HasRow, Partners, joinsTo, joinedBy, opensLeg, transferOf}
-use Rattle.octets.proofs.Lists.{mem-map, mem-keep, eqb-eq, eqb-self, eqb-sym, any-map, right, left, small-one, mem-perm, p-sym, any-of, test, true-not-false, or-right, both, is-true}
-use Rattle.octets.specs.Lists.{keep, any}
+use Rattle.octets.proofs.Lists.{mem-map, mem-filter, eqb-eq, eqb-self, eqb-sym, any-map, right, left, small-one, mem-perm, p-sym, any-of, test, true-not-false, or-right, both, is-true}
+use Rattle.octets.specs.Lists.{filter, any}
 use Rattle.events.specs.declared.Refusal.the-variants as refusal
 
 -- ---- the partner, worked out from event to event
@@ -71,9 +71,9 @@ shape-stop : (n : ℕ) (es : List Entry) (l : ℕ) (o : Option ℕ) → Shape es
 shape-stop n es l none h = (h .0, mem-map (mapConnection (endAlerting n)) (h .1))
 shape-stop n es l (some m) h = (h .0 && not (eqb n l), mem-map (mapConnection (endAlerting n)) (h .1))
 
-shape-keep : (e₀ : Entry) (es : List Entry) (l : ℕ) (o : Option ℕ) → not (eqb l (e₀ .leg) || isPartner l (e₀ .connection)) ≡ true → Shape es l o → Shape (keep (remains e₀) es) l o
-shape-keep e₀ es l none k h = (h .0, mem-keep (remains e₀) (h .1) k)
-shape-keep e₀ es l (some m) k h = (h .0, mem-keep (remains e₀) (h .1) k)
+shape-filter : (e₀ : Entry) (es : List Entry) (l : ℕ) (o : Option ℕ) → not (eqb l (e₀ .leg) || isPartner l (e₀ .connection)) ≡ true → Shape es l o → Shape (filter (remains e₀) es) l o
+shape-filter e₀ es l none k h = (h .0, mem-filter (remains e₀) (h .1) k)
+shape-filter e₀ es l (some m) k h = (h .0, mem-filter (remains e₀) (h .1) k)
 
 shape-join : (es : List Entry) (x y : Party) → List·Memᴰ x (calls es) → List·Memᴰ y (calls es) → (l : ℕ) (now : Option ℕ) → any (hasLeg l) es ≡ true → (any (hasLeg l) es ≡ true → Shape es l now) →
     Shape (map (mapConnection (joinLegs (x .leg) (y .leg))) es) l (cond (eqb l (x .leg)) (some (y .leg)) (cond (eqb l (y .leg)) (some (x .leg)) now))
@@ -129,8 +129,8 @@ module _ (l : ℕ) (es : List Entry) (now : Option ℕ) (inv : any (hasLeg l) es
   shaped-by (sets-auxiliary {r = r} {a = x} e k) = λ h. shape-call r (withAuxiliary x) es l now (inv (sym (any-map (hasLeg l) (mapConnection (changeCall r (withAuxiliary x))) es) ∙ h))
   shaped-by (releases {e = e₀} m k) = struck (e₀ .leg) (e₀ .connection)
     where
-      kept : (n : ℕ) (t : Connection) → any (hasLeg l) (keep (remains (entry n t)) es) ≡ true → Shape (keep (remains (entry n t)) es) l now
-      kept n t h = let i = sym (stay-leg l (entry n t) es) ∙ h in shape-keep (entry n t) es l now (right (any (hasLeg l) es) _ i) (inv (left (any (hasLeg l) es) _ i))
+      kept : (n : ℕ) (t : Connection) → any (hasLeg l) (filter (remains (entry n t)) es) ≡ true → Shape (filter (remains (entry n t)) es) l now
+      kept n t h = let i = sym (stay-leg l (entry n t) es) ∙ h in shape-filter (entry n t) es l now (right (any (hasLeg l) es) _ i) (inv (left (any (hasLeg l) es) _ i))
 
       struck : (n : ℕ) (t : Connection) → any (hasLeg l) (changedEntries (releaseOf n t) es) ≡ true → Shape (changedEntries (releaseOf n t) es) l (firstOf (joinsTo l (releaseOf n t)) now)
       struck n (WithUser c) = kept n (WithUser c)
@@ -158,7 +158,7 @@ shaped-list k [] l now inv = inv
 shaped-list k (e ∷ es) l now inv = shaped-list (booked k e) es l _ (shaped-next k e l now inv)
 
 pub has-row : {b : Board} {k : Book} → Together b k → (l : ℕ) (t : Connection) → List·Memᴰ (entry l t) (taken (b .rows)) → HasRow b l t
-has-row {b} t l u m = small-one (keep (hasLeg l) (taken (b .rows))) (legs-one l (t .entries-are)) (mem-keep (hasLeg l) m (eqb-self l))
+has-row {b} t l u m = small-one (filter (hasLeg l) (taken (b .rows))) (legs-one l (t .entries-are)) (mem-filter (hasLeg l) m (eqb-self l))
 
 pub call-row : {b : Board} {k : Book} → Together b k → (l : ℕ) → Shape (k .entries) l none → (c : Call) × HasRow b l (WithUser c)
 call-row t l h = (h .0, has-row t l (WithUser (h .0)) (mem-perm (p-sym (t .order)) (h .1)))

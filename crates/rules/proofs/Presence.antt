@@ -25,8 +25,8 @@ use Rattle.events.specs.Refusals.{refusalNumber}
 use Rattle.events.specs.EventRecords.{request, Request}
 use Rattle.rules.specs.History.{Event, accepts, opensLeg, endsLeg, bookAt, booked, joinedWith}
 use Rattle.events.specs.declared.Refusal.{Refusal}
-use Rattle.octets.proofs.Lists.{same-tests, any-has, keep-mem, both, any-of, eqb-eq, left, mem-keep, right, true-not-false, any-map, or-cases, from-true, or-right, is-true, or-left}
-use Rattle.octets.specs.Lists.{any, keep}
+use Rattle.octets.proofs.Lists.{same-tests, any-has, filter-mem, both, any-of, eqb-eq, left, mem-filter, right, true-not-false, any-map, or-cases, from-true, or-right, is-true, or-left}
+use Rattle.octets.specs.Lists.{any, filter}
 use Rattle.events.specs.declared.Refusal.the-variants as refusal
 
 -- ---- what opens and ends a leg, in a list that may hold refused events
@@ -63,22 +63,22 @@ and-true false = refl
 
 -- ---- presence after one event
 
-pub stay-leg : (l : ℕ) (e₀ : Entry) (es : List Entry) → any (hasLeg l) (keep (remains e₀) es) ≡ (any (hasLeg l) es && not (eqb l (e₀ .leg) || isPartner l (e₀ .connection)))
+pub stay-leg : (l : ℕ) (e₀ : Entry) (es : List Entry) → any (hasLeg l) (filter (remains e₀) es) ≡ (any (hasLeg l) es && not (eqb l (e₀ .leg) || isPartner l (e₀ .connection)))
 stay-leg l e₀ es = same-tests to from
   where
     S : ℕ → Bool
     S n = not (eqb n (e₀ .leg) || isPartner n (e₀ .connection))
 
-    to : any (hasLeg l) (keep (remains e₀) es) ≡ true → (any (hasLeg l) es && not (eqb l (e₀ .leg) || isPartner l (e₀ .connection))) ≡ true
+    to : any (hasLeg l) (filter (remains e₀) es) ≡ true → (any (hasLeg l) es && not (eqb l (e₀ .leg) || isPartner l (e₀ .connection))) ≡ true
     to h =
-        let r = any-has (hasLeg l) (keep (remains e₀) es) h in
-        let m = keep-mem (remains e₀) es (r .1) in
+        let r = any-has (hasLeg l) (filter (remains e₀) es) h in
+        let m = filter-mem (remains e₀) es (r .1) in
         both (any-of (hasLeg l) (m .0) (r .2)) (ap S (eqb-eq l (r .0 .leg) (r .2)) ∙ m .1)
 
-    from : (any (hasLeg l) es && not (eqb l (e₀ .leg) || isPartner l (e₀ .connection))) ≡ true → any (hasLeg l) (keep (remains e₀) es) ≡ true
+    from : (any (hasLeg l) es && not (eqb l (e₀ .leg) || isPartner l (e₀ .connection))) ≡ true → any (hasLeg l) (filter (remains e₀) es) ≡ true
     from h =
         let r = any-has (hasLeg l) es (left (any (hasLeg l) es) _ h) in
-        any-of (hasLeg l) (mem-keep (remains e₀) (r .1) (sym (ap S (eqb-eq l (r .0 .leg) (r .2))) ∙ right (any (hasLeg l) es) _ h)) (r .2)
+        any-of (hasLeg l) (mem-filter (remains e₀) (r .1) (sym (ap S (eqb-eq l (r .0 .leg) (r .2))) ∙ right (any (hasLeg l) es) _ h)) (r .2)
 
 -- the one entry of m is joined to l where l's is joined to m
 joined-same : {es : List Entry} → Sound es → (l m : ℕ) (e₀ : Entry) → List·Memᴰ e₀ es → eqb m (e₀ .leg) ≡ true → isPartner l (e₀ .connection) ≡ any (joinedWith l m) es

@@ -30,7 +30,7 @@ use Rattle.rules.proofs.Lengths.{Short, fifteen, nothing-short, reply-s
 use Rattle.rules.specs.Checks.{Decision, writtenBy}
 use Rattle.events.specs.Refusals.{refusalNumber}
 use Rattle.events.specs.EventRecords.{Request, request, inRange}
-use Rattle.rules.specs.Replies.{numberAt, Number, markOnly, numberOfRow, octets, DropOrder, tells, facility, transferredActive, transferReplies, releaseReplies, answerTold}
+use Rattle.rules.specs.Replies.{numberAt, TellNumber, markOnly, numberOfRow, octets, DropOrder, tells, facility, transferredActive, transferReplies, releaseReplies, answerTold}
 use Rattle.rules.specs.Step.{replies, step, stepTested, Outcome, refused, done, decision}
 use Rattle.octets.proofs.Lists.{left, true-not-false, right, find-mem, all-at}
 use Rattle.octets.specs.Lists.{all, find}
@@ -52,7 +52,7 @@ number-length rows k l = go (find at-leg rows) refl
     at-leg r = eqb l (r .leg) && occupied (r .standing)
 
     chosen : (x y : Bool) (n : PartyNumber) → length (n .digits) ≡ 15 →
-        length ((cond {A = Number} x (markOnly 0) (cond y (markOnly 2) (record { mark = 1; count = n .count; digits = n .digits }))) .digits) ≡ 15
+        length ((cond {A = TellNumber} x (markOnly 0) (cond y (markOnly 2) (record { mark = 1; count = n .count; digits = n .digits }))) .digits) ≡ 15
     chosen true y r h = refl
     chosen false true r h = refl
     chosen false false r h = h
@@ -80,7 +80,7 @@ release-short (WithUser c) = record { fits = λ order numbers k. omega arith }
 release-short (WithPartner p a) = record { fits = λ order numbers k. omega arith }
 
 answer-short : (o : Options) (l p : ℕ) → Short (answerTold o l p)
-answer-short o l p = tell-short p facility transferredActive (λ (numbers : ℕ → Number). numbers l) 0 (λ numbers k. k l)
+answer-short o l p = tell-short p facility transferredActive (λ (numbers : ℕ → TellNumber). numbers l) 0 (λ numbers k. k l)
 
 short-by : {opt : Options} {z : ℤ} {w : Bool} {es : List Entry} {q : Request} {d : Decision} → inRange q ≡ true → Decided opt z w es q d → Short (writtenBy d)
 short-by k (refuses c) = nothing-short

@@ -10,7 +10,7 @@ use lib.Arith.{lt→nleb}
 use lib.ListN.{length, length-map}
 use lib.IntN.{ℤ}
 use Rattle.board.specs.declared.PartyNumber.{PartyNumber}
-use Rattle.board.specs.Changes.{changedCall, joined, answered, emptiedIf, changedRows, rowAfter, enter, full, enterAt, withLinkId, withState, withAuxiliary, mapStanding}
+use Rattle.board.specs.Changes.{changedCall, joined, alertingEnded, emptiedIf, changedRows, rowAfter, enter, full, enterAt, withLinkId, withState, withAuxiliary, mapStanding}
 use Rattle.board.specs.declared.Connection.the-variants.{WithPartner, WithUser}
 use Rattle.board.specs.declared.Entry.{Entry}
 use Rattle.board.specs.Entries.{taken, rowEntry, entryOf, occupied, isNumber}
@@ -28,8 +28,8 @@ use Rattle.rules.specs.Book.{mapConnection, changeCall, joinLegs, endAle
 use Rattle.rules.specs.Checks.{BoardChange, Enter, Apply, Decision, decide, changeOf, newLinkIdOf}
 use Rattle.events.specs.EventRecords.{Request, inRange}
 use Rattle.rules.specs.Step.{enteredRow, rowsAfter, candidateBy, candidateAfter}
-use Rattle.octets.proofs.Lists.{Perm, true-not-false, p-trans, p-skip, p-swap, p-of, is-not, is-true, right, p-refl, map-perm, keep-perm, all-map, all-ext, left, all-by, all-at, both}
-use Rattle.octets.specs.Lists.{consOpt, keep, all, consIf, any}
+use Rattle.octets.proofs.Lists.{Perm, true-not-false, p-trans, p-skip, p-swap, p-of, is-not, is-true, right, p-refl, map-perm, filter-perm, all-map, all-ext, left, all-by, all-at, both}
+use Rattle.octets.specs.Lists.{consOpt, filter, all, consIf, any}
 use Rattle.octets.specs.declared.CallReference.{CallReference}
 use Rattle.octets.specs.declared.LinkId.{LinkId}
 use Rattle.board.specs.declared.Change.the-variants as change
@@ -44,9 +44,9 @@ taken-map f g h (r ∷ rs) = ap₂ consOpt (h r) (taken-map f g h rs) ∙ go (ro
     go none = refl
     go (some e) = refl
 
-taken-keep : (f : Row → Row) (p : Entry → Bool) → ((r : Row) (l : List Entry) → consOpt (rowEntry (f r)) (keep p l) ≡ keep p (consOpt (rowEntry r) l)) → (rows : List Row) → taken (map f rows) ≡ keep p (taken rows)
-taken-keep f p h [] = refl
-taken-keep f p h (r ∷ rs) = ap (consOpt (rowEntry (f r))) (taken-keep f p h rs) ∙ h r (taken rs)
+taken-filter : (f : Row → Row) (p : Entry → Bool) → ((r : Row) (l : List Entry) → consOpt (rowEntry (f r)) (filter p l) ≡ filter p (consOpt (rowEntry r) l)) → (rows : List Row) → taken (map f rows) ≡ filter p (taken rows)
+taken-filter f p h [] = refl
+taken-filter f p h (r ∷ rs) = ap (consOpt (rowEntry (f r))) (taken-filter f p h rs) ∙ h r (taken rs)
 
 call-shown : (r : CallReference) (f : Call → Call) (n : ℕ) (t : Standing) → entryOf n (changedCall r f n t) ≡ Option·map (mapConnection (changeCall (r .0) f)) (entryOf n t)
 call-shown r f n Empty = refl
@@ -63,22 +63,22 @@ join-shown a b n (Served c) = go (eqb a n) (eqb b n)
     go false false = refl
 join-shown a b n (Joined p x) = refl
 
-stop-shown : (l n : ℕ) (t : Standing) → entryOf n (answered l n t) ≡ Option·map (mapConnection (endAlerting l)) (entryOf n t)
+stop-shown : (l n : ℕ) (t : Standing) → entryOf n (alertingEnded l n t) ≡ Option·map (mapConnection (endAlerting l)) (entryOf n t)
 stop-shown l n Empty = refl
 stop-shown l n (Served c) = refl
 stop-shown l n (Joined p a) = refl
 
 -- a row is emptied where its leg is the released one or its partner: its entry does not stay
 emptied-shown : (l : ℕ) (o : Option ℕ) (r : Row) (b : Bool) → not (eqb (r .leg) l || isNumber (r .leg) o) ≡ not b → (es : List Entry) →
-    consOpt (rowEntry (emptiedIf b r)) (keep (stays l o) es) ≡ keep (stays l o) (consOpt (rowEntry r) es)
+    consOpt (rowEntry (emptiedIf b r)) (filter (stays l o) es) ≡ filter (stays l o) (consOpt (rowEntry r) es)
 emptied-shown l o r b h es = go b (r .standing) h
   where
-    same : (x : Entry) (k c : Bool) → k ≡ c → consIf c x (keep (stays l o) es) ≡ consIf k x (keep (stays l o) es)
-    same x k c u = ap (λ (d : Bool). consIf d x (keep (stays l o) es)) (sym u)
+    same : (x : Entry) (k c : Bool) → k ≡ c → consIf c x (filter (stays l o) es) ≡ consIf k x (filter (stays l o) es)
+    same x k c u = ap (λ (d : Bool). consIf d x (filter (stays l o) es)) (sym u)
 
     go : (b : Bool) (t : Standing) → not (eqb (r .leg) l || isNumber (r .leg) o) ≡ not b →
-        consOpt (rowEntry (emptiedIf b (record { leg = r .leg; number = r .number; standing = t }))) (keep (stays l o) es)
-        ≡ keep (stays l o) (consOpt (entryOf (r .leg) t) es)
+        consOpt (rowEntry (emptiedIf b (record { leg = r .leg; number = r .number; standing = t }))) (filter (stays l o) es)
+        ≡ filter (stays l o) (consOpt (entryOf (r .leg) t) es)
     go true Empty u = refl
     go true (Served c) u = same (record { leg = r .leg; connection = WithUser c }) _ false u
     go true (Joined p a) u = same (record { leg = r .leg; connection = WithPartner p a }) _ false u
@@ -98,9 +98,9 @@ change-view (change.SetLinkId r l) rows = taken-map _ _ (λ x. call-shown r (wit
 change-view (change.Join a b) rows = taken-map _ _ (λ x. join-shown a b (x .leg) (x .standing)) rows
 change-view (change.EndAlerting l) rows = taken-map _ _ (λ x. stop-shown l (x .leg) (x .standing)) rows
 change-view (change.Release l) rows =
-    taken-keep (rowAfter (change.Release l)) (stays l none) (λ r es. emptied-shown l none r (eqb (r .leg) l) (ap not (or-none (eqb (r .leg) l))) es) rows
+    taken-filter (rowAfter (change.Release l)) (stays l none) (λ r es. emptied-shown l none r (eqb (r .leg) l) (ap not (or-none (eqb (r .leg) l))) es) rows
 change-view (change.ReleasePair l p) rows =
-    taken-keep (rowAfter (change.ReleasePair l p)) (stays l (some p)) (λ r es. emptied-shown l (some p) r (eqb (r .leg) l || eqb (r .leg) p) refl es) rows
+    taken-filter (rowAfter (change.ReleasePair l p)) (stays l (some p)) (λ r es. emptied-shown l (some p) r (eqb (r .leg) l || eqb (r .leg) p) refl es) rows
 
 enter-shown : (new : Row) (c : Call) (rows : List Row) → new .standing ≡ Served c → full rows ≡ false → Perm (taken (enter new rows)) (record { leg = new .leg; connection = WithUser c } ∷ taken rows)
 enter-shown new c [] h k = absurd (true-not-false refl k)
@@ -176,8 +176,8 @@ change-perm (change.SetAuxiliary r a) h = map-perm (mapConnection (changeCall (r
 change-perm (change.SetLinkId r z) h = map-perm (mapConnection (changeCall (r .0) (withLinkId z))) h
 change-perm (change.Join a b) h = map-perm (mapConnection (joinLegs a b)) h
 change-perm (change.EndAlerting l) h = map-perm (mapConnection (endAlerting l)) h
-change-perm (change.Release l) h = keep-perm (stays l none) h
-change-perm (change.ReleasePair l p) h = keep-perm (stays l (some p)) h
+change-perm (change.Release l) h = filter-perm (stays l none) h
+change-perm (change.ReleasePair l p) h = filter-perm (stays l (some p)) h
 
 pub after-perm : (c : Option BoardChange) {l m : List Entry} → Perm l m → Perm (entriesAfter c l) (entriesAfter c m)
 unfolding entriesAfter
@@ -231,7 +231,7 @@ join-right a b l n (Served c) = go (eqb a l) (eqb b l)
     go false false = refl
 join-right a b l n (Joined q x) = refl
 
-stop-right : (m l : ℕ) (n : PartyNumber) (t : Standing) → validStanding l n (answered m l t) ≡ validStanding l n t
+stop-right : (m l : ℕ) (n : PartyNumber) (t : Standing) → validStanding l n (alertingEnded m l t) ≡ validStanding l n t
 stop-right m l n Empty = refl
 stop-right m l n (Served c) = refl
 stop-right m l n (Joined q a) = refl

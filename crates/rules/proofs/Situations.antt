@@ -8,15 +8,15 @@ use Rattle.board.specs.Counts.{counts}
 use Rattle.board.specs.Making.{fresh}
 use Rattle.board.specs.Changes.{changedRows, rowAfter}
 use Rattle.events.specs.EventRecords.{request}
-use Rattle.rules.specs.Pairing.{pairs}
+use Rattle.rules.specs.Pairing.{callsPair}
 use Rattle.rules.specs.Serving.{serve}
 use Rattle.rules.specs.Checks.{decide}
 use Rattle.rules.specs.Replies.{octets}
 use Rattle.rules.specs.Step.{step, stepTested, decision, rowsAfter, candidateAfter, boardAfter, replies}
-use Rattle.rules.specs.Situations.{Situations, WorkedLog, after, upTo, heldAndIdle, sixteenLive, log}
+use Rattle.rules.specs.Situations.{Situations, WorkedLog, afterRecords, upTo, heldAndIdle, sixteenLive, log}
 
 pub situations : Situations
-unfolding firstElement siblings wholeElements reading invokeReading identifiedReading answerOctets sound soundRows soundEntries validRow counts fresh changedRows rowAfter request pairs serve decide octets step stepTested decision rowsAfter candidateAfter boardAfter replies after upTo heldAndIdle sixteenLive
+unfolding firstElement siblings wholeElements reading invokeReading identifiedReading answerOctets sound soundRows soundEntries validRow counts fresh changedRows rowAfter request callsPair serve decide octets step stepTested decision rowsAfter candidateAfter boardAfter replies afterRecords upTo heldAndIdle sixteenLive
 situations = record {
   active-held-with-active-idle = refl;
   both-held = refl;
@@ -41,5 +41,5 @@ situations = record {
 }
 
 pub worked-log : WorkedLog
-unfolding firstElement siblings wholeElements reading invokeReading identifiedReading answerOctets sound soundRows soundEntries validRow counts fresh changedRows rowAfter request pairs serve decide octets step stepTested decision rowsAfter candidateAfter boardAfter replies after log
+unfolding firstElement siblings wholeElements reading invokeReading identifiedReading answerOctets sound soundRows soundEntries validRow counts fresh changedRows rowAfter request callsPair serve decide octets step stepTested decision rowsAfter candidateAfter boardAfter replies afterRecords log
 worked-log = record { lines = refl; end = refl }

@@ -8,7 +8,7 @@ use mathlib.Core.Option.{Option, some, none}
 use lib.Dec.{eqb, T, ltb}
 use Rattle.board.specs.declared.Connection.the-variants.{WithUser}
 use Rattle.board.specs.Entries.{hasLeg}
-use Rattle.board.specs.Making.{options, emptyBoard, unmade, fresh}
+use Rattle.board.specs.Making.{options, emptyBoard, makingRefused, fresh}
 use Rattle.board.specs.Soundness.{validOptions, sound}
 use Rattle.board.specs.declared.Board.{Board}
 use Rattle.board.specs.declared.Call.{Call}
@@ -290,7 +290,7 @@ unfolding fresh freshBook
 whole-history s a list = go (validOptions (options s a)) refl
   where
     go : (x : Bool) → validOptions (options s a) ≡ x →
-        WholeHistory ((cond {A = Made} x (record { returned = 0; board = emptyBoard (options s a) }) unmade) .board) (cond {A = Book} x (emptyBook (options s a)) (emptyBook (options 0 0))) list
+        WholeHistory ((cond {A = Made} x (record { returned = 0; board = emptyBoard (options s a) }) makingRefused) .board) (cond {A = Book} x (emptyBook (options s a)) (emptyBook (options 0 0))) list
     go true h = whole-history-of (options s a) (from-true h) list
     go false h = whole-history-of (options 0 0) tt list
 

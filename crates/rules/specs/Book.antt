@@ -8,7 +8,7 @@ use lib.Dec.{eqb, leb, ltb}
 use lib.IntN.{ℤ, pos}
 use lib.ListN.{length}
 use Rattle.octets.specs.declared.LinkId.{LinkId}
-use Rattle.octets.specs.Lists.{keep}
+use Rattle.octets.specs.Lists.{filter}
 use Rattle.octets.specs.Numbers.{nextLinkId}
 use Rattle.board.specs.declared.Call.{Call}
 use Rattle.board.specs.declared.Options.{Options}
@@ -71,8 +71,8 @@ changedEntries (change.SetAuxiliary r a) es = map (mapConnection (changeCall (r 
 changedEntries (change.SetLinkId r l) es = map (mapConnection (changeCall (r .0) (withLinkId l))) es
 changedEntries (change.Join a b) es = map (mapConnection (joinLegs a b)) es
 changedEntries (change.EndAlerting l) es = map (mapConnection (endAlerting l)) es
-changedEntries (change.Release l) es = keep (stays l none) es
-changedEntries (change.ReleasePair l p) es = keep (stays l (some p)) es
+changedEntries (change.Release l) es = filter (stays l none) es
+changedEntries (change.ReleasePair l p) es = filter (stays l (some p)) es
 
 -- "Open enters the leg and its call."
 unfoldable pub entriesAfter : Option BoardChange → List Entry → List Entry

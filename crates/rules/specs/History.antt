@@ -7,7 +7,7 @@ use mathlib.Core.List.{List, [], _∷_, _++_, List·Memᴰ}
 use mathlib.Core.Option.{Option, none, some}
 use lib.Dec.{eqb, T}
 use lib.ListN.{length}
-use Rattle.octets.specs.Lists.{any, all, keep, distinct}
+use Rattle.octets.specs.Lists.{any, all, filter, distinct}
 use Rattle.board.specs.declared.Call.{Call}
 use Rattle.board.specs.declared.Board.{Board}
 use Rattle.board.specs.declared.Connection.{Connection}
@@ -148,7 +148,7 @@ onBoard b l = any (hasLeg l) (taken (b .rows))
 
 -- the leg has one row, and that row has this connection
 abbrev pub HasRow : Board → ℕ → Connection → Type 0
-HasRow b l c = keep (hasLeg l) (taken (b .rows)) ≡ record { leg = l; connection = c } ∷ []
+HasRow b l c = filter (hasLeg l) (taken (b .rows)) ≡ record { leg = l; connection = c } ∷ []
 
 -- each is the other's partner
 abbrev pub Partners : Board → ℕ → ℕ → Type 0

@@ -23,5 +23,5 @@ verdict c d =
     0
 
 -- "Calls pair at verdict 1, and at verdict 2 if the alerting option is 1."
-unfoldable pub pairs : Options → Call → Call → Bool
-pairs o c d = eqb (verdict c d) 1 || (eqb (verdict c d) 2 && eqb (o .alerting) 1)
+unfoldable pub callsPair : Options → Call → Call → Bool
+callsPair o c d = eqb (verdict c d) 1 || (eqb (verdict c d) 2 && eqb (o .alerting) 1)

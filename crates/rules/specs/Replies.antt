@@ -19,17 +19,13 @@ use Rattle.board.specs.declared.Connection.{Connection}
 use Rattle.board.specs.declared.Connection.the-variants.{WithUser, WithPartner}
 use Rattle.board.specs.declared.Party.{Party}
 use Rattle.board.specs.Entries.{occupied}
-
 -- a number as it is told
-pub record Number : Type 0 where
-  pub mark : ℕ
-  pub count : ℕ
-  pub digits : List ℕ
+pub use Rattle.rules.specs.declared.TellNumber.{TellNumber}
 
 -- a Reply's reference is the event's; a Tell has leg, message, description, number, subaddress request
 pub data ReplyRecord : Type 0 where
   Reply : (reference : ℕ) → Answer → ReplyRecord
-  Tell : (leg message description : ℕ) → Number → (request : ℕ) → ReplyRecord
+  Tell : (leg message description : ℕ) → TellNumber → (request : ℕ) → ReplyRecord
   Drop : (reference : ℕ) → ReplyRecord
   Gone : (leg : ℕ) → ReplyRecord
 
@@ -49,21 +45,21 @@ octets (r ∷ rs) = recordOctets r ++ octets rs
 -- ---- "Number mark: 0 unknown, or not sent; 2 withheld, where digits exist but are restricted; 1 given."
 -- ---- "Digits appear only with 1; else digit count and digits are zero."
 
-abbrev pub markOnly : ℕ → Number
+abbrev pub markOnly : ℕ → TellNumber
 markOnly m = record { mark = m; count = 0; digits = replicate 15 0 }
 
-abbrev pub numberAsTold : PartyNumber → Number
+abbrev pub numberAsTold : PartyNumber → TellNumber
 numberAsTold n =
     cond (eqb (n .count) 0) (markOnly 0)
     (cond (eqb (n .presentation) 1) (markOnly 2)
     (record { mark = 1; count = n .count; digits = n .digits }))
 
-abbrev pub numberOfRow : Option Row → Number
+abbrev pub numberOfRow : Option Row → TellNumber
 numberOfRow none = markOnly 0
 numberOfRow (some r) = numberAsTold (r .number)
 
 -- the number of the party at a leg
-abbrev pub numberAt : List Row → ℕ → Number
+abbrev pub numberAt : List Row → ℕ → TellNumber
 numberAt rows l = numberOfRow (find (λ (r : Row). eqb l (r .leg) && occupied (r .standing)) rows)
 
 -- ---- what the far parties are told
@@ -84,13 +80,13 @@ transferredActive = 0xEA
 -- a leg, whether it alerts itself, whether the other does, and the other's number:
 -- "Both Active: each is told FACILITY, EA, the other's number, request 1. One alerting: the Active one FACILITY, E9, mark 0, request 1;
 -- the alerting one NOTIFY, EA, the other's number, request 0." Two calls that pair are never both Delivered.
-abbrev pub told : ℕ → Bool → Bool → Number → ReplyRecord
+abbrev pub told : ℕ → Bool → Bool → TellNumber → ReplyRecord
 told l false false n = Tell l facility transferredActive n 1
 told l false true n = Tell l facility transferredAlerting (markOnly 0) 1
 told l true other n = Tell l notify transferredActive n 0
 
 -- "then two Tells, the named call's party first", each with the other's number; the options make no difference
-abbrev pub tells : Options → (ℕ → Number) → Party → Party → List ReplyRecord
+abbrev pub tells : Options → (ℕ → TellNumber) → Party → Party → List ReplyRecord
 tells o numbers p q =
     told (p .leg) (delivered (p .call)) (delivered (q .call)) (numbers (q .leg))
     ∷ told (q .leg) (delivered (q .call)) (delivered (p .call)) (numbers (p .leg))
@@ -109,7 +105,7 @@ drops OtherFirst named other = Drop other ∷ Drop named ∷ []
 
 -- its records, by the order of two Drops, which is left open, and by the number of the party at each leg, which the rows have
 abbrev pub Written : Type 0
-Written = DropOrder → (ℕ → Number) → List ReplyRecord
+Written = DropOrder → (ℕ → TellNumber) → List ReplyRecord
 
 -- "Open, Progress and Hold write nothing"
 abbrev pub nothing : Written

@@ -9,7 +9,7 @@ use lib.IntN.{ℤ}
 use lib.ListN.{length}
 use Rattle.octets.specs.declared.IntegerOctets.{IntegerOctets}
 use Rattle.octets.specs.declared.LinkId.{LinkId}
-use Rattle.octets.specs.Lists.{keep, find, only, pick}
+use Rattle.octets.specs.Lists.{filter, find, only, filterMap}
 use Rattle.component.specs.declared.Operation.{Operation}
 use Rattle.component.specs.declared.Operation.the-variants.{EctExecute, ExplicitEctExecute, EctLinkIdRequest}
 use Rattle.component.specs.declared.Reading.{Reading}
@@ -22,7 +22,7 @@ use Rattle.board.specs.LinkIds.{mostLinkIds, freeLinkId, live}
 -- what a component comes to
 pub use Rattle.rules.specs.declared.Service.{Service}
 pub use Rattle.rules.specs.declared.Service.the-variants.{Silent, Respond, AssignLinkId, Transfer}
-use Rattle.rules.specs.Pairing.{pairs}
+use Rattle.rules.specs.Pairing.{callsPair}
 
 -- the general errors: 0 not subscribed, 7 the calls do not pair, 11 no LinkId is free
 abbrev pub error : IntegerOctets → ℕ → Service
@@ -50,7 +50,7 @@ sameCall p q = eqb (p .call .reference .0) (q .call .reference .0)
 
 -- "other served call pairs with the named one"
 abbrev pub partnerFor : Options → Party → Party → Bool
-partnerFor o named q = not (sameCall named q) && pairs o (named .call) (q .call)
+partnerFor o named q = not (sameCall named q) && callsPair o (named .call) (q .call)
 
 -- "EctExecute: if exactly one other served call pairs with the named one, transfer; else e = 7 (H)."
 abbrev pub execute : Party → IntegerOctets → Option Party → Service
@@ -63,7 +63,7 @@ executeExplicitly o named i none = Respond (answer.LinkIdNotAssigned i)
 executeExplicitly o named i (some q) = cond (partnerFor o named q) (Transfer named q i) (error i 7)
 
 abbrev pub perform : Options → ℤ → List Party → Party → IntegerOctets → Operation → Service
-perform o candidate ps named i EctExecute = execute named i (only (keep (partnerFor o named) ps))
+perform o candidate ps named i EctExecute = execute named i (only (filter (partnerFor o named) ps))
 perform o candidate ps named i (ExplicitEctExecute l) = executeExplicitly o named i (find (hasPartyLinkId (l .0)) ps)
 perform o candidate ps named i EctLinkIdRequest = linkIdRequest candidate (live ps) i (linkIdIn (named .call .link))
 

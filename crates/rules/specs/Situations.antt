@@ -51,13 +51,13 @@ ectLinkIdRequest = 0xA1 ∷ 0x0B ∷ 0x02 ∷ 0x01 ∷ 0x05 ∷ 0x06 ∷ 0x06 �
 -- ---- boards
 
 -- the board after records, each with a reply buffer of 128 octets
-unfoldable pub after : Board → List (List ℕ) → Board
-after b [] = b
-after b (r ∷ rs) = after (step NamedFirst b r 128 .board) rs
+unfoldable pub afterRecords : Board → List (List ℕ) → Board
+afterRecords b [] = b
+afterRecords b (r ∷ rs) = afterRecords (step NamedFirst b r 128 .board) rs
 
 -- the number returned, and the octets written
-abbrev pub says : Board → List ℕ → List ℕ
-says b r = step NamedFirst b r 128 .returned ∷ octets (step NamedFirst b r 128 .replies)
+abbrev pub numberAndOctets : Board → List ℕ → List ℕ
+numberAndOctets b r = step NamedFirst b r 128 .returned ∷ octets (step NamedFirst b r 128 .replies)
 
 -- accepted, with these records
 abbrev pub answeredBy : List ReplyRecord → List ℕ
@@ -74,12 +74,12 @@ withCandidate z b = record { rows = b .rows; options = b .options; candidate = r
 -- calls 1 to n, all Active, and of them call 1 held
 unfoldable pub heldAndIdle : ℕ → Board
 heldAndIdle n =
-    after (fresh 1 0 .board)
+    afterRecords (fresh 1 0 .board)
     (upTo n openRecord ++ (upTo n (λ (r : ℕ). progressRecord r 10) ++ (holdRecord 1 1 ∷ holdRecord 1 2 ∷ [])))
 
 -- 17 calls, of which calls 1 to 16 have LinkIds, 0 to 15
 unfoldable pub sixteenLive : Board
-sixteenLive = after (fresh 1 0 .board) (upTo 17 openRecord ++ upTo 16 (facilityRecord ectLinkIdRequest))
+sixteenLive = afterRecords (fresh 1 0 .board) (upTo 17 openRecord ++ upTo 16 (facilityRecord ectLinkIdRequest))
 
 abbrev pub call : CallState → AuxiliaryState → Call
 call s a = record { reference = record { 0 = 1 }; direction = Outgoing; state = s; auxiliary = a; link = Absent }
@@ -106,20 +106,20 @@ pub record Situations : Type 0 where
   pub link-minus-128 : integer (fewest (negsuc 127)) ≡ 0x02 ∷ 0x01 ∷ 0x80 ∷ []
   pub link-minus-129 : integer (fewest (negsuc 128)) ≡ 0x02 ∷ 0x02 ∷ 0xFF ∷ 0x7F ∷ []
   -- "Candidate 32767, none live: 32767 given, then -32768 to another call."
-  pub candidate-32767 : says (withCandidate (pos 32767) (heldAndIdle 2)) (facilityRecord ectLinkIdRequest 1) ≡ linkIdOn 1 (pos 32767)
+  pub candidate-32767 : numberAndOctets (withCandidate (pos 32767) (heldAndIdle 2)) (facilityRecord ectLinkIdRequest 1) ≡ linkIdOn 1 (pos 32767)
   pub candidate-wraps :
-      says (after (withCandidate (pos 32767) (heldAndIdle 2)) (facilityRecord ectLinkIdRequest 1 ∷ [])) (facilityRecord ectLinkIdRequest 2)
+      numberAndOctets (afterRecords (withCandidate (pos 32767) (heldAndIdle 2)) (facilityRecord ectLinkIdRequest 1 ∷ [])) (facilityRecord ectLinkIdRequest 2)
       ≡ linkIdOn 2 (negsuc 32767)
   -- "16 live: a seventeenth call gets e = 11"; "one of the 16 gets its value."
-  pub seventeenth-call : says sixteenLive (facilityRecord ectLinkIdRequest 17) ≡ errorOn 17 11
-  pub one-of-the-16 : says sixteenLive (facilityRecord ectLinkIdRequest 5) ≡ linkIdOn 5 (pos 4)
+  pub seventeenth-call : numberAndOctets sixteenLive (facilityRecord ectLinkIdRequest 17) ≡ errorOn 17 11
+  pub one-of-the-16 : numberAndOctets sixteenLive (facilityRecord ectLinkIdRequest 5) ≡ linkIdOn 5 (pos 4)
   -- "Explicit with the named call's own LinkId: 7." "Unsubscribed and LinkId unknown: 0."
-  pub explicit-with-own-link : says (after (heldAndIdle 2) (facilityRecord ectLinkIdRequest 1 ∷ [])) (facilityRecord (explicitEctExecute 0) 1) ≡ errorOn 1 7
-  pub unsubscribed-and-link-unknown : says (after (fresh 0 0 .board) (openRecord 1 ∷ [])) (facilityRecord (explicitEctExecute 9) 1) ≡ errorOn 1 0
+  pub explicit-with-own-link : numberAndOctets (afterRecords (heldAndIdle 2) (facilityRecord ectLinkIdRequest 1 ∷ [])) (facilityRecord (explicitEctExecute 0) 1) ≡ errorOn 1 7
+  pub unsubscribed-and-link-unknown : numberAndOctets (afterRecords (fresh 0 0 .board) (openRecord 1 ∷ [])) (facilityRecord (explicitEctExecute 9) 1) ≡ errorOn 1 0
   -- "One Active Held, two Active Idle: EctExecute on the held one, 7; on an idle one, transfer."
-  pub execute-on-the-held-one : says (heldAndIdle 3) (facilityRecord ectExecute 1) ≡ errorOn 1 7
+  pub execute-on-the-held-one : numberAndOctets (heldAndIdle 3) (facilityRecord ectExecute 1) ≡ errorOn 1 7
   pub execute-on-an-idle-one :
-      says (heldAndIdle 3) (facilityRecord ectExecute 2)
+      numberAndOctets (heldAndIdle 3) (facilityRecord ectExecute 2)
       ≡ answeredBy
       (Reply 2 (answer.Result (One 5))
       ∷ Drop 2
@@ -133,7 +133,7 @@ pub record Situations : Type 0 where
   -- "Counts of a fresh board: 0, 0, 0; after a transfer with no third call: legs 2, pairs 1, links 0."
   pub counts-of-a-fresh-board : counts (fresh 1 1 .board .rows) ≡ record { returned = 0; legs = 0; pairs = 0; links = 0 }
   pub counts-after-a-transfer :
-      counts (after (heldAndIdle 2) (facilityRecord ectExecute 1 ∷ []) .rows)
+      counts (afterRecords (heldAndIdle 2) (facilityRecord ectExecute 1 ∷ []) .rows)
       ≡ record { returned = 0; legs = 2; pairs = 1; links = 0 }
 
 -- ---- the worked log, record by record
@@ -141,7 +141,7 @@ pub record Situations : Type 0 where
 -- what each record says, and the counts at the end
 unfoldable pub log : Board → List (List ℕ) → List (List ℕ)
 log b [] = []
-log b (r ∷ rs) = says b r ∷ log (step NamedFirst b r 128 .board) rs
+log b (r ∷ rs) = numberAndOctets b r ∷ log (step NamedFirst b r 128 .board) rs
 
 -- "Open reference 1, leg 7, outgoing, shown, digits 21"
 abbrev pub workedOpen : List ℕ
@@ -165,4 +165,4 @@ pub record WorkedLog : Type 0 where
       ∷ (9 ∷ [])
       ∷ []
   -- "end 1 0 1"
-  pub end : counts (after (fresh 1 0 .board) workedRecords .rows) ≡ record { returned = 0; legs = 1; pairs = 0; links = 1 }
+  pub end : counts (afterRecords (fresh 1 0 .board) workedRecords .rows) ≡ record { returned = 0; legs = 1; pairs = 0; links = 1 }

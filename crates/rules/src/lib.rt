@@ -20,3 +20,10 @@ pub enum Service {
         identifier: IntegerOctets,
     },
 }
+
+// A number as it is told: its mark, and its digits only where the mark is 1.
+pub struct TellNumber {
+    pub mark: u8,
+    pub count: u8,
+    pub digits: [u8; 15],
+}

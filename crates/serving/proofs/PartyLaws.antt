@@ -16,7 +16,7 @@ use Rattle.board.specs.declared.Row.{Row}
 use Rattle.board.specs.declared.Standing.{Standing}
 use Rattle.board.specs.declared.Standing.the-variants.{Empty, Served, Joined}
 use Rattle.rules.specs.Checks.{entryAt}
-use Rattle.octets.proofs.Places.{pickAt}
+use Rattle.octets.proofs.Places.{valueAt}
 use Rattle.octets.specs.Lists.{find, placeFrom}
 use Rattle.board.specs.declared.finding.Key.{Key}
 use Rattle.board.specs.declared.finding.Key.the-variants as key
@@ -27,12 +27,12 @@ use Rattle.octets.specs.Tests.{bindOption}
 abbrev pub noRow : Row
 noRow = record { leg = 0; number = record { presentation = 0; count = 0; digits = [] }; standing = Empty }
 
-module _ (q : Party → Bool) (k : Key) (rows : List Row) (law : find q (calls (taken rows)) ≡ pickAt rowParty noRow rows (placeFrom (matchesKey k) 0 rows)) where
+module _ (q : Party → Bool) (k : Key) (rows : List Row) (law : find q (calls (taken rows)) ≡ valueAt rowParty noRow rows (placeFrom (matchesKey k) 0 rows)) where
   pub party-found : {row : Row} → row ≡ foundRow (find (matchesKey k) rows) → foundParty (rowParty row) ≡ foundParty (find q (calls (taken rows)))
   party-found e =
       ap (λ (r : Row). foundParty (rowParty r)) (e ∙ ap foundRow (find-at noRow (matchesKey k) rows)) ∙ sym (ap foundParty (law ∙ go (placeFrom (matchesKey k) 0 rows)))
     where
-      go : (o : Option ℕ) → pickAt rowParty noRow rows o ≡ rowParty (foundRow (elementAt noRow rows o))
+      go : (o : Option ℕ) → valueAt rowParty noRow rows o ≡ rowParty (foundRow (elementAt noRow rows o))
       go none = refl
       go (some i) = refl
 
@@ -41,7 +41,7 @@ entry-found n rows e =
     ap (λ (r : Row). foundEntry (rowEntry r)) (e ∙ ap foundRow (find-at noRow (matchesKey (key.Leg n)) rows))
     ∙ sym (ap foundEntry (entry-by-leg n rows noRow ∙ go (placeFrom (matchesKey (key.Leg n)) 0 rows)))
   where
-    go : (o : Option ℕ) → pickAt rowEntry noRow rows o ≡ rowEntry (foundRow (elementAt noRow rows o))
+    go : (o : Option ℕ) → valueAt rowEntry noRow rows o ≡ rowEntry (foundRow (elementAt noRow rows o))
     go none = refl
     go (some i) = refl
 

@@ -18,7 +18,7 @@ use Rattle.board.specs.declared.Connection.the-variants.{WithUser, WithPartner}
 use Rattle.board.specs.declared.Entry.{Entry}
 use Rattle.board.specs.declared.Row.{Row}
 use Rattle.octets.proofs.Laws.{link}
-use Rattle.octets.specs.Lists.{pick, consOpt}
+use Rattle.octets.specs.Lists.{filterMap, consOpt}
 use Rattle.octets.specs.declared.IntegerOctets.{IntegerOctets}
 use Rattle.octets.specs.declared.LinkId.{LinkId}
 use Rattle.rules.proofs.Kept.{live-length}

@@ -11,11 +11,11 @@ use board::Party;
 use board::Row;
 use row_changes::is_delivered;
 ghost use mathlib.Core.Path.{_≡_};
-ghost use Rattle.octets.specs.Lists.{only, keep};
+ghost use Rattle.octets.specs.Lists.{only, filter};
 ghost use Rattle.board.specs.States.{stateNumber, auxiliaryNumber, directionNumber};
 ghost use Rattle.board.specs.States.{active, delivered, idle, held, outgoing};
 ghost use Rattle.board.specs.Entries.{foundParty};
-ghost use Rattle.rules.specs.Pairing.{heldWithIdle, activeWithDelivered, verdict as verdictOf, pairs as pair};
+ghost use Rattle.rules.specs.Pairing.{heldWithIdle, activeWithDelivered, verdict as verdictOf, callsPair};
 ghost use Rattle.rules.specs.Serving.{partnerFor};
 ghost use Rattle.serving.specs.Code.Parties.{hasPartner, partiesOf};
 
@@ -107,8 +107,8 @@ fn verdict(c: Call, d: Call) -> u8
     0
 }
 
-fn pairs(options: Options, c: Call, d: Call) -> bool
-    ensures { λ r. ⌜ r ≡ pair options c d ⌝ }
+fn calls_pair(options: Options, c: Call, d: Call) -> bool
+    ensures { λ r. ⌜ r ≡ callsPair options c d ⌝ }
 {
     let v = verdict(c, d);
     (v == 1) | ((v == 2) & (options.alerting == 1))
@@ -120,7 +120,7 @@ pub fn is_partner(options: Options, named: Party, other: Party) -> bool
 {
     let c = named.call;
     let d = other.call;
-    (c.reference.0 != d.reference.0) & pairs(options, c, d)
+    (c.reference.0 != d.reference.0) & calls_pair(options, c, d)
 }
 
 fn has_partner(options: Options, named: Party, row: Row) -> bool
@@ -134,7 +134,7 @@ fn has_partner(options: Options, named: Party, row: Row) -> bool
 
 // The other party that pairs with the named one, where there is exactly one.
 pub fn only_partner(board: Board, named: Party) -> FoundParty
-    ensures { λ r. ⌜ r ≡ foundParty (only (keep (partnerFor (board .options) named) (partiesOf board))) ⌝ }
+    ensures { λ r. ⌜ r ≡ foundParty (only (filter (partnerFor (board .options) named) (partiesOf board))) ⌝ }
 {
     let options = board.options;
     for i in 0..64 {

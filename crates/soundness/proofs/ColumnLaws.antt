@@ -12,10 +12,10 @@ use lib.Dec.{eqb}
 use lib.ListN.{length, getD, set, take, drop, length-set}
 use lib.Seq.{take-suc, take-all, take-set-le, take-suc-set, getD-set-same, getD-set-other}
 use borrow.Author.Tests.{eq-eqb, ne-eqb}
-use Rattle.octets.specs.Lists.{any, all, distinct, consOpt, pick}
+use Rattle.octets.specs.Lists.{any, all, distinct, consOpt, filterMap}
 use Rattle.octets.proofs.Lists.{true-not-false, both, eqb-eq, all-at, all-by, none-by, or-right}
-use Rattle.octets.proofs.Loops.{Step, Past, step-first, past-first, all-yes, all-no, all-end, distinct-yes, distinct-no, distinct-end, pick-skip}
-use Rattle.octets.proofs.Places.{pick-pick}
+use Rattle.octets.proofs.Loops.{Step, Past, step-first, past-first, all-yes, all-no, all-end, distinct-yes, distinct-no, distinct-end, filterMap-skip}
+use Rattle.octets.proofs.Places.{filterMap-filterMap}
 use Rattle.board.specs.declared.OptionalLinkId.{OptionalLinkId}
 use Rattle.board.specs.declared.OptionalLinkId.the-variants.{Absent, Present}
 use Rattle.board.specs.declared.Standing.{Standing}
@@ -37,7 +37,7 @@ inRow f r = bindOption f (rowEntry r)
 pub record Column (f : Entry → Option ℕ) (rows : List Row) (i : ℕ) (column : List ℕ) (n : ℕ) : Type 0 where
   pub within : n ≤ i
   pub long : length column ≡ 64
-  pub holds : take n column ≡ pick (inRow f) (take i rows)
+  pub holds : take n column ≡ filterMap (inRow f) (take i rows)
 
 -- a number where the count says that there is one
 abbrev pub given : ℕ → ℕ → Option ℕ
@@ -49,15 +49,15 @@ pub record Gives (o : Option ℕ) (k v : ℕ) : Type 0 where
   pub is : o ≡ given k v
   pub one : k ≤ 1
 
-pick-put : {A B : Type 0} (f : A → Option B) (l : List A) (x : A) (y : B) → f x ≡ some y → pick f (l ++ (x ∷ [])) ≡ pick f l ++ (y ∷ [])
-pick-put f [] x y e = rw e
-pick-put {B} f (z ∷ l) x y e = go (f z) (pick-put f l x y e)
+filterMap-put : {A B : Type 0} (f : A → Option B) (l : List A) (x : A) (y : B) → f x ≡ some y → filterMap f (l ++ (x ∷ [])) ≡ filterMap f l ++ (y ∷ [])
+filterMap-put f [] x y e = rw e
+filterMap-put {B} f (z ∷ l) x y e = go (f z) (filterMap-put f l x y e)
   where
-    go : (o : Option B) → pick f (l ++ (x ∷ [])) ≡ pick f l ++ (y ∷ []) → consOpt o (pick f (l ++ (x ∷ []))) ≡ consOpt o (pick f l) ++ (y ∷ [])
+    go : (o : Option B) → filterMap f (l ++ (x ∷ [])) ≡ filterMap f l ++ (y ∷ []) → consOpt o (filterMap f (l ++ (x ∷ []))) ≡ consOpt o (filterMap f l) ++ (y ∷ [])
     go none h = h
     go (some w) h = ap (λ (r : List B). w ∷ r) h
 
-one-more : {A B : Type 0} (f : A → Option B) (l : List A) (i : ℕ) (d : A) → i < length l → pick f (take i l ++ (getD l i d ∷ [])) ≡ pick f (take (i + 1) l)
+one-more : {A B : Type 0} (f : A → Option B) (l : List A) (i : ℕ) (d : A) → i < length l → filterMap f (take i l ++ (getD l i d ∷ [])) ≡ filterMap f (take (i + 1) l)
 one-more f l i d h = rw (add-one i, take-suc l i d h)
 
 pub column-start : (f : Entry → Option ℕ) (rows : List Row) (column : List ℕ) → length column ≡ 64 → Column f rows 0 column 0
@@ -70,7 +70,7 @@ column-skip {f} {rows} {i} {column} {n} d h e t = record {
   long = t .long;
   holds =
       t .holds
-      ∙ sym (pick-skip (inRow f) (take i rows) (getD rows i d) (ap (bindOption f) e))
+      ∙ sym (filterMap-skip (inRow f) (take i rows) (getD rows i d) (ap (bindOption f) e))
       ∙ one-more (inRow f) rows i d h;
 }
 
@@ -83,7 +83,7 @@ column-step {f} {rows} {i} {column} {n} d zero v h w g t = record {
       ap (λ (k : ℕ). take k (set column n v)) (add-zero n)
       ∙ take-set-le n column n v (le-refl n)
       ∙ t .holds
-      ∙ sym (pick-skip (inRow f) (take i rows) (getD rows i d) (g .is))
+      ∙ sym (filterMap-skip (inRow f) (take i rows) (getD rows i d) (g .is))
       ∙ one-more (inRow f) rows i d h;
 }
 column-step {f} {rows} {i} {column} {n} d (suc zero) v h w g t = record {
@@ -93,16 +93,16 @@ column-step {f} {rows} {i} {column} {n} d (suc zero) v h w g t = record {
       ap (λ (k : ℕ). take k (set column n v)) (add-one n)
       ∙ take-suc-set column n v (omega (arith, t .within, t .long))
       ∙ ap (λ (l : List ℕ). l ++ (v ∷ [])) (t .holds)
-      ∙ sym (pick-put (inRow f) (take i rows) (getD rows i d) v (g .is))
+      ∙ sym (filterMap-put (inRow f) (take i rows) (getD rows i d) v (g .is))
       ∙ one-more (inRow f) rows i d h;
 }
 column-step d (suc (suc k)) v h w g t = absurd (omega (arith, g .one))
 
-pub column-end : {f : Entry → Option ℕ} {rows : List Row} {i : ℕ} {column : List ℕ} {n : ℕ} → length rows ≤ i → Column f rows i column n → take n column ≡ pick f (taken rows)
+pub column-end : {f : Entry → Option ℕ} {rows : List Row} {i : ℕ} {column : List ℕ} {n : ℕ} → length rows ≤ i → Column f rows i column n → take n column ≡ filterMap f (taken rows)
 column-end {f} {rows} {i} {column} {n} h t =
     t .holds
-    ∙ ap (λ (l : List Row). pick (inRow f) l) (take-all i rows h)
-    ∙ sym (pick-pick f rowEntry rows)
+    ∙ ap (λ (l : List Row). filterMap (inRow f) l) (take-all i rows h)
+    ∙ sym (filterMap-filterMap f rowEntry rows)
 
 -- ---- what a row puts into each column
 

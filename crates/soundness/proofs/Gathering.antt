@@ -8,7 +8,7 @@ use mathlib.Core.Option.{none}
 use lib.Dec.{eqb, leb}
 use lib.ListN.{length, getD, set, take, drop}
 use lib.Seq.{length-take-le}
-use Rattle.octets.specs.Lists.{all, pick}
+use Rattle.octets.specs.Lists.{all, filterMap}
 use Rattle.octets.proofs.Loops.{step-at, past-end, all-yes, all-no, all-end}
 use Rattle.board.specs.declared.Standing.{Standing}
 use Rattle.board.specs.declared.Row.{Row}
@@ -169,7 +169,7 @@ module _ {rows : List Row} {i : ℕ} {c : Columns} (g : ReadTo rows i c) where
         let a = column-end w (g .the-legs) in
         let b = column-end w (g .the-references) in
         let k = column-end w (g .the-links) in
-        let n : length (pick linkIn (taken rows)) ≡ c .linked = sym (ap (λ (ns : List ℕ). length ns) k) ∙ length-take-le (c .linked) (c .links) (omega (arith, g .the-links .within, g .the-links .long, g .within)) in
+        let n : length (filterMap linkIn (taken rows)) ≡ c .linked = sym (ap (λ (ns : List ℕ). length ns) k) ∙ length-take-le (c .linked) (c .links) (omega (arith, g .the-links .within, g .the-links .long, g .within)) in
         rw (sound-by-columns rows, f, n, g .so-far, a, b, k, column-end w (g .the-own), column-end w (g .the-partners), column-end w (g .the-alerting));
     few-taken = omega (arith, g .within, g .the-legs .within);
     few-served = omega (arith, g .within, g .the-references .within);

@@ -11,7 +11,7 @@ use Rattle.board.specs.declared.Standing.{Standing}
 use Rattle.board.specs.declared.Standing.the-variants.{Empty, Served, Joined}
 use Rattle.board.specs.declared.Row.{Row}
 use Rattle.board.specs.declared.finding.Key.{Key}
-use Rattle.board.specs.declared.finding.Survey.{Survey}
+use Rattle.board.specs.declared.finding.OpenCheck.{OpenCheck}
 use Rattle.board.specs.declared.finding.Key.the-variants as key
 use Rattle.board.specs.Entries.{occupied, linkIdIn, isLinkId}
 use Rattle.board.specs.Lookup.{hasCallOf}
@@ -37,6 +37,6 @@ matchesKey (key.LinkId l) row = hasLinkIdOf (l .0) (row .standing)
 matchesKey key.Empty row = isEmpty row
 
 -- what an Open asks of the rows: whether one has the leg, one the reference, and one is empty
-abbrev pub surveyOf : ℕ → CallReference → List Row → Survey
-surveyOf n r rows =
+abbrev pub openCheckOf : ℕ → CallReference → List Row → OpenCheck
+openCheckOf n r rows =
     record { leg = any (matchesKey (key.Leg n)) rows; reference = any (matchesKey (key.Reference r)) rows; empty = any (matchesKey key.Empty) rows }

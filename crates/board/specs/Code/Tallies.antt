@@ -1,7 +1,7 @@
 -- What one row adds to each count, and the counts of rows before joined rows are halved.
 use mathlib.Core.List.{List}
 use lib.ListN.{length}
-use Rattle.octets.specs.Lists.{keep}
+use Rattle.octets.specs.Lists.{filter}
 use Rattle.octets.specs.Tests.{bit}
 use Rattle.board.specs.declared.Row.{Row}
 use Rattle.board.specs.declared.Tally.{Tally}
@@ -14,6 +14,6 @@ rowTally r = record { legs = bit (takenRow r); joined = bit (joinedRow r); links
 unfoldable pub tallyOf : List Row → Tally
 tallyOf rows = record {
   legs = length (taken rows);
-  joined = length (keep (λ (e : Entry). isJoined (e .connection)) (taken rows));
+  joined = length (filter (λ (e : Entry). isJoined (e .connection)) (taken rows));
   links = linkIds (taken rows);
 }

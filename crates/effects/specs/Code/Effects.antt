@@ -30,7 +30,7 @@ use Rattle.effects.specs.declared.BoardChange.the-variants.{None, Enter,
 use Rattle.effects.specs.declared.Effect.{Effect}
 use Rattle.replies.specs.declared.Out.{Out}
 use Rattle.replies.specs.declared.FarParty.{FarParty}
-use Rattle.replies.specs.Code.Writing.{rendered, numberTold}
+use Rattle.replies.specs.Code.Writing.{rendered}
 use Rattle.serving.specs.Code.Parties.{entriesOf}
 
 -- the row that an Open enters
@@ -74,7 +74,7 @@ pub record Describes (rows : List Row) (p : Party) (f : FarParty) : Type 0 where
   pub reference : f .reference ≡ p .call .reference
   pub leg : f .leg ≡ p .leg
   pub alerts : f .alerts ≡ delivered (p .call)
-  pub number : numberTold (f .number) ≡ numberAt rows (p .leg)
+  pub number : f .number ≡ numberAt rows (p .leg)
 
 -- the party or the entry that a search has found
 abbrev pub partyFound : FoundParty → Option Party

@@ -5,7 +5,7 @@ use mathlib.Core.Path.{sym, _∙_}
 use lib.ListN.{length}
 use borrow.Author.Needs.{needs}
 use Rattle.log_text.specs.Lines.{endLine}
-use Rattle.log_text.proofs.TextLaws.{end-length, field-length, put-five, put-none}
+use Rattle.log_text.proofs.TextLaws.{end-length, spaced-length, put-five, put-none}
 use Rattle.log_text.proofs.end_line.Statement.{statement}
 use Rattle.log_text.proofs.end_line.Tie as tie
 
@@ -42,20 +42,20 @@ slice-aggregate-put-text c = search needs
 put-text-requires : tie.Need-put-text-requires
 put-text-requires c κs = search needs
 
-put-field-requires : tie.Need-put-field-requires
-put-field-requires c κs = search needs
+put-spaced-requires : tie.Need-put-spaced-requires
+put-spaced-requires c κs = search needs
 
-put-field-requires-2 : tie.Need-put-field-requires-2
-put-field-requires-2 c κs =
+put-spaced-requires-2 : tie.Need-put-spaced-requires-2
+put-spaced-requires-2 c κs =
     let s = c .before .before .before .before .before .before .before .before .before .before .before .before .before .before .before .args in
     omega (
       arith,
       room (c .before .before .before .before .before .before .before .before .before .before),
       end-length (s .legs) (s .pairs) (s .links),
-      field-length (s .legs),
-      field-length (s .pairs),
-      c .before .before .before .put-field .ensures .place,
-      c .before .before .before .put-field .ensures .long,
+      spaced-length (s .legs),
+      spaced-length (s .pairs),
+      c .before .before .before .put-spaced .ensures .place,
+      c .before .before .before .put-spaced .ensures .long,
       c .before .before .before .before .before .before .before .put-text .ensures .place,
       c .before .before .before .before .before .before .before .put-text .ensures .long,
     )
@@ -67,12 +67,12 @@ put-decimal-requires c κs =
       arith,
       room (c .before .before .before .before .before .before .before .before .before .before .before .before .before .before),
       end-length (s .legs) (s .pairs) (s .links),
-      field-length (s .legs),
-      field-length (s .pairs),
-      c .before .before .before .put-field2 .ensures .place,
-      c .before .before .before .put-field2 .ensures .long,
-      c .before .before .before .before .before .before .before .put-field .ensures .place,
-      c .before .before .before .before .before .before .before .put-field .ensures .long,
+      spaced-length (s .legs),
+      spaced-length (s .pairs),
+      c .before .before .before .put-spaced2 .ensures .place,
+      c .before .before .before .put-spaced2 .ensures .long,
+      c .before .before .before .before .before .before .before .put-spaced .ensures .place,
+      c .before .before .before .before .before .before .before .put-spaced .ensures .long,
       c .before .before .before .before .before .before .before .before .before .before .before .put-text .ensures .place,
       c .before .before .before .before .before .before .before .before .before .before .before .put-text .ensures .long,
     )
@@ -84,14 +84,14 @@ put-requires c κs =
       arith,
       room (c .before .before .before .before .before .before .before .before .before .before .before .before .before .before .before .before .before .before),
       end-length (s .legs) (s .pairs) (s .links),
-      field-length (s .legs),
-      field-length (s .pairs),
+      spaced-length (s .legs),
+      spaced-length (s .pairs),
       c .before .before .before .put-decimal .ensures .place,
       c .before .before .before .put-decimal .ensures .long,
-      c .before .before .before .before .before .before .before .put-field2 .ensures .place,
-      c .before .before .before .before .before .before .before .put-field2 .ensures .long,
-      c .before .before .before .before .before .before .before .before .before .before .before .put-field .ensures .place,
-      c .before .before .before .before .before .before .before .before .before .before .before .put-field .ensures .long,
+      c .before .before .before .before .before .before .before .put-spaced2 .ensures .place,
+      c .before .before .before .before .before .before .before .put-spaced2 .ensures .long,
+      c .before .before .before .before .before .before .before .before .before .before .before .put-spaced .ensures .place,
+      c .before .before .before .before .before .before .before .before .before .before .before .put-spaced .ensures .long,
       c .before .before .before .before .before .before .before .before .before .before .before .before .before .before .before .put-text .ensures .place,
       c .before .before .before .before .before .before .before .before .before .before .before .before .before .before .before .put-text .ensures .long,
     )
@@ -101,8 +101,8 @@ same-length c = search needs
 
 returns-2 : tie.Need-returns-2
 returns-2 c = put-five (room (c .before .before .before .before .before .before .before .before .before .before .before .before .before .before .before .before .before .before .before .before .before))
-    (c .before .before .before .before .before .before .before .before .before .before .before .before .before .before .before .before .before .before .put-text .ensures) (c .before .before .before .before .before .before .before .before .before .before .before .before .before .before .put-field .ensures)
-    (c .before .before .before .before .before .before .before .before .before .before .put-field2 .ensures) (c .before .before .before .before .before .before .put-decimal .ensures) (c .before .before .put .ensures)
+    (c .before .before .before .before .before .before .before .before .before .before .before .before .before .before .before .before .before .before .put-text .ensures) (c .before .before .before .before .before .before .before .before .before .before .before .before .before .before .put-spaced .ensures)
+    (c .before .before .before .before .before .before .before .before .before .before .put-spaced2 .ensures) (c .before .before .before .before .before .before .put-decimal .ensures) (c .before .before .put .ensures)
 
 pub end-line-spec : {M : Type 1} → statement M
 end-line-spec =
@@ -117,8 +117,8 @@ end-line-spec =
     returns
     slice-aggregate-put-text
     put-text-requires
-    put-field-requires
-    put-field-requires-2
+    put-spaced-requires
+    put-spaced-requires-2
     put-decimal-requires
     put-requires
     same-length

@@ -100,29 +100,29 @@ returns-3 c =
 add-number : tie.Need-add-number Inv-loop μ-loop
 add-number c = search needs
 
-add-tell : tie.Need-add-tell Inv-loop μ-loop
-add-tell c = search needs
+add-play-record : tie.Need-add-play-record Inv-loop μ-loop
+add-play-record c = search needs
 
-sub-tell : tie.Need-sub-tell Inv-loop μ-loop
-sub-tell c = search needs
+sub-play-record : tie.Need-sub-play-record Inv-loop μ-loop
+sub-play-record c = search needs
 
-part-tell-start : tie.Need-part-tell-start Inv-loop μ-loop
-part-tell-start c = search needs
+part-play-record-start : tie.Need-part-play-record-start Inv-loop μ-loop
+part-play-record-start c = search needs
 
-part-tell-end : tie.Need-part-tell-end Inv-loop μ-loop
-part-tell-end c = search needs
+part-play-record-end : tie.Need-part-play-record-end Inv-loop μ-loop
+part-play-record-end c = search needs
 
-sub-tell-2 : tie.Need-sub-tell-2 Inv-loop μ-loop
-sub-tell-2 c = search needs
+sub-play-record-2 : tie.Need-sub-play-record-2 Inv-loop μ-loop
+sub-play-record-2 c = search needs
 
-part-tell-start-2 : tie.Need-part-tell-start-2 Inv-loop μ-loop
-part-tell-start-2 c = search needs
+part-play-record-start-2 : tie.Need-part-play-record-start-2 Inv-loop μ-loop
+part-play-record-start-2 c = search needs
 
-part-tell-end-2 : tie.Need-part-tell-end-2 Inv-loop μ-loop
-part-tell-end-2 c = search needs
+part-play-record-end-2 : tie.Need-part-play-record-end-2 Inv-loop μ-loop
+part-play-record-end-2 c = search needs
 
-tell-requires : tie.Need-tell-requires Inv-loop μ-loop
-tell-requires c κs = search needs
+play-record-requires : tie.Need-play-record-requires Inv-loop μ-loop
+play-record-requires c κs = search needs
 
 add-read : tie.Need-add-read Inv-loop μ-loop
 add-read c = search needs
@@ -131,7 +131,7 @@ add-text : tie.Need-add-text Inv-loop μ-loop
 add-text c = omega (
   arith,
   room (c .before .before .before .before .before .before .before .before .before .before .before .before .before),
-  c .before .before .before .before .tell .ensures .1 .line .within,
+  c .before .before .before .before .play-record .ensures .1 .line .within,
   length-drop (c .before .before .before .before .before .before .before .before .before .before .before .before .before .loop .text) (c .before .before .before .before .before .before .before .before .before .before .before .before .before .loop .out),
 )
 
@@ -189,7 +189,7 @@ returns-4 c =
     let v = c .before .before .before .before .before .before .before .before .before .before .before .before .before .before .before .before .before .before .before .args in
     let at = c .before .before .before .before .before .before .before .before .before .before .before .before .before .before .before .before .loop in
     let f = c .before .before .before .before .before .before .before .before .before .before .before .before .front-length .result in
-    let t = c .before .before .before .before .before .before .before .tell in
+    let t = c .before .before .before .before .before .before .before .play-record in
     let event = take (at .read + f - at .read) (drop (at .read) (v .piece .now)) in
     let s = tells-step (t .ensures .0) (at .board) event (at .inv .3) (t .ensures .1) in
     rw (c .paused4 .ensures)
@@ -205,7 +205,7 @@ loop-again c =
     let v = c .before .before .before .before .before .before .before .before .before .before .before .before .before .before .before .before .before .before .args in
     let at = c .before .before .before .before .before .before .before .before .before .before .before .before .before .before .before .loop in
     let f = c .before .before .before .before .before .before .before .before .before .before .before .front-length .result in
-    let t = c .before .before .before .before .before .before .tell in
+    let t = c .before .before .before .before .before .before .play-record in
     let event = take (at .read + f - at .read) (drop (at .read) (v .piece .now)) in
     let s = tells-step (t .ensures .0) (at .board) event (at .inv .3) (t .ensures .1) in
     let k = stays-sound (t .ensures .0) (at .board) event (at .inv .3) (t .ensures .1) (at .inv .4) in (
@@ -256,14 +256,14 @@ play-tested-spec =
     same-length-3
     returns-3
     add-number
-    add-tell
-    sub-tell
-    part-tell-start
-    part-tell-end
-    sub-tell-2
-    part-tell-start-2
-    part-tell-end-2
-    tell-requires
+    add-play-record
+    sub-play-record
+    part-play-record-start
+    part-play-record-end
+    sub-play-record-2
+    part-play-record-start-2
+    part-play-record-end-2
+    play-record-requires
     add-read
     add-text
     stops-requires

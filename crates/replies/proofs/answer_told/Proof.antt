@@ -6,7 +6,6 @@ use mathlib.Core.Path.{_≡_}
 use native.Mathlib.Omega.{arith}
 use lib.ListN.{length}
 use Rattle.rules.specs.Replies.{facility, transferredActive}
-use Rattle.replies.specs.Code.Writing.{numberTold}
 use Rattle.replies.proofs.Room.{tell-room}
 use Rattle.replies.proofs.WritingLaws.{empty, renders}
 
@@ -22,7 +21,7 @@ push-tell-requires c κs = omega (arith, empty (c .nothing .ensures))
 returns : tie.Need-returns
 returns c =
     let s = c .before .before .args in
-    renders (c .before .nothing .ensures) (omega (arith, tell-room (s .partner) facility transferredActive (numberTold (s .number)) 0 (fifteen (c .before .before)))) (c .push-tell .ensures)
+    renders (c .before .nothing .ensures) (omega (arith, tell-room (s .partner) facility transferredActive (s .number) 0 (fifteen (c .before .before)))) (c .push-tell .ensures)
 
 pub answer-told-spec : {M : Type 1} → statement M
 answer-told-spec = tie.close (tie.spec nothing-requires push-tell-requires returns)

@@ -8,9 +8,9 @@ use Rattle.octets.specs.declared.IntegerOctets.{IntegerOctets}
 use Rattle.octets.specs.Code.Appending.{Appended}
 use Rattle.component.specs.declared.Answer.the-variants as answer
 use Rattle.replies.specs.declared.Out.{Out}
-use Rattle.replies.specs.declared.Told.{Told}
+use Rattle.rules.specs.declared.TellNumber.{TellNumber}
 use Rattle.replies.specs.declared.FarParty.{FarParty}
-use Rattle.rules.specs.Replies.{Number, ReplyRecord, Reply, octets, NamedFirst, drops, told}
+use Rattle.rules.specs.Replies.{ReplyRecord, Reply, octets, NamedFirst, drops, told}
 
 -- the octets of the records, in their order, and zeros behind them
 unfoldable pub rendered : List ReplyRecord → Out
@@ -32,14 +32,11 @@ pub record Adds (o r : Out) (rs : List ReplyRecord) (n : ℕ) : Type 0 where
   pub appended : AppendedTo o r (octets rs)
   pub room : r .len ≡ o .len + n
 
-abbrev pub numberTold : Told → Number
-numberTold t = record { mark = t .mark; count = t .count; digits = t .digits }
-
 -- each is told of the other, the named one first
 abbrev pub transferTells : FarParty → FarParty → List ReplyRecord
 transferTells named other =
-    told (named .leg) (named .alerts) (other .alerts) (numberTold (other .number))
-    ∷ told (other .leg) (other .alerts) (named .alerts) (numberTold (named .number))
+    told (named .leg) (named .alerts) (other .alerts) (other .number)
+    ∷ told (other .leg) (other .alerts) (named .alerts) (named .number)
     ∷ []
 
 -- the records of a transfer, the Reply on the reference r, the named one's Drop first

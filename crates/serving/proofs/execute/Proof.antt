@@ -1,5 +1,5 @@
 use mathlib.Core.Path.{sym, ap, _∙_}
-use Rattle.octets.specs.Lists.{keep, only}
+use Rattle.octets.specs.Lists.{filter, only}
 use Rattle.octets.proofs.Places.{told}
 use Rattle.board.specs.Entries.{taken, calls}
 use Rattle.rules.specs.Serving.{partnerFor, execute}
@@ -26,7 +26,7 @@ returns c =
     c .failed .ensures
     ∙ sym
     (ap (execute (s .args .named) (s .args .identifier))
-    (party-none (only (keep (partnerFor (s .args .board .options) (s .args .named)) (calls (taken (s .args .board .rows)))))
+    (party-none (only (filter (partnerFor (s .args .board .options) (s .args .named)) (calls (taken (s .args .board .rows)))))
     (told (c .before .before .before .only-partner .ensures) (c .before .enum-told .given .1))))
 
 returns-2 : tie.Need-returns-2
@@ -34,7 +34,7 @@ returns-2 c =
     let s = c .before .before .before .before in
     sym
     (ap (execute (s .args .named) (s .args .identifier))
-    (party-some (only (keep (partnerFor (s .args .board .options) (s .args .named)) (calls (taken (s .args .board .rows)))))
+    (party-some (only (filter (partnerFor (s .args .board .options) (s .args .named)) (calls (taken (s .args .board .rows)))))
     (told (c .before .before .before .only-partner .ensures) (c .before .other .given .1))))
 
 pub execute-spec : {M : Type 1} → statement M

@@ -6,7 +6,7 @@ use mathlib.Core.Option.{Option, none, some}
 use lib.IntN.{ℤ}
 use Rattle.octets.specs.declared.LinkId.{LinkId}
 use Rattle.octets.specs.declared.IntegerOctets.{IntegerOctets}
-use Rattle.octets.specs.Lists.{keep, find}
+use Rattle.octets.specs.Lists.{filter, find}
 use Rattle.octets.specs.Tests.{has}
 use Rattle.component.specs.declared.Operation.{Operation}
 use Rattle.board.specs.declared.Standing.{Standing}
@@ -38,7 +38,7 @@ freeIn b = freeLinkId mostLinkIds (b .candidate .0) (live (partiesOf b))
 
 -- the calls that pair with a named one; the call with a LinkId
 abbrev pub pairedOn : Board → Party → List Party
-pairedOn b p = keep (partnerFor (b .options) p) (partiesOf b)
+pairedOn b p = filter (partnerFor (b .options) p) (partiesOf b)
 
 abbrev pub linkedOn : Board → LinkId → Option Party
 linkedOn b l = find (hasPartyLinkId (l .0)) (partiesOf b)

@@ -7,8 +7,8 @@ use borrow.Author.Needs.{needs}
 use Rattle.effects.proofs.opening.open.Statement.{statement}
 use Rattle.effects.proofs.opening.open.Tie as tie
 
-look-over-requires : tie.Need-look-over-requires
-look-over-requires c κs = search needs
+check-open-requires : tie.Need-check-open-requires
+check-open-requires c κs = search needs
 
 refuse-requires : tie.Need-refuse-requires
 refuse-requires c κs = search needs
@@ -16,7 +16,7 @@ refuse-requires c κs = search needs
 returns : tie.Need-returns
 returns c =
     let s = c .before .before .before .args in
-    let look = c .before .before .look-over .ensures in
+    let look = c .before .before .check-open .ensures in
     open-leg-there (any (hasLeg (s .l)) (taken (s .board .rows))) (any (hasReference (s .r .0)) (taken (s .board .rows))) (full (s .board .rows))
     (opening (s .r .0) (s .l) (s .d) (s .number))
     (leg-seen (s .l) (s .r) (s .board .rows) look (c .before .if1 .taken))
@@ -28,7 +28,7 @@ refuse-requires-2 c κs = search needs
 returns-2 : tie.Need-returns-2
 returns-2 c =
     let s = c .before .before .before .before .args in
-    let look = c .before .before .before .look-over .ensures in
+    let look = c .before .before .before .check-open .ensures in
     open-reference-there (any (hasLeg (s .l)) (taken (s .board .rows))) (any (hasReference (s .r .0)) (taken (s .board .rows))) (full (s .board .rows))
     (opening (s .r .0) (s .l) (s .d) (s .number))
     (leg-seen (s .l) (s .r) (s .board .rows) look (c .before .before .if1 .left))
@@ -41,7 +41,7 @@ refuse-requires-3 c κs = search needs
 returns-3 : tie.Need-returns-3
 returns-3 c =
     let s = c .before .before .before .before .before .before .args in
-    let look = c .before .before .before .before .before .look-over .ensures in
+    let look = c .before .before .before .before .before .check-open .ensures in
     open-full (any (hasLeg (s .l)) (taken (s .board .rows))) (any (hasReference (s .r .0)) (taken (s .board .rows))) (full (s .board .rows))
     (opening (s .r .0) (s .l) (s .d) (s .number))
     (leg-seen (s .l) (s .r) (s .board .rows) look (c .before .before .before .before .if1 .left))
@@ -58,7 +58,7 @@ nothing-requires c κs = search needs
 returns-4 : tie.Need-returns-4
 returns-4 c =
     let s = c .before .before .before .before .before .before .before .args in
-    let look = c .before .before .before .before .before .before .look-over .ensures in
+    let look = c .before .before .before .before .before .before .check-open .ensures in
     open-done (any (hasLeg (s .l)) (taken (s .board .rows))) (any (hasReference (s .r .0)) (taken (s .board .rows))) (full (s .board .rows))
     (opening (s .r .0) (s .l) (s .d) (s .number))
     (leg-seen (s .l) (s .r) (s .board .rows) look (c .before .before .before .before .before .if1 .left))
@@ -70,7 +70,7 @@ pub open-spec : {M : Type 1} → statement M
 open-spec =
     tie.close
     (tie.spec
-    look-over-requires
+    check-open-requires
     refuse-requires
     returns
     refuse-requires-2

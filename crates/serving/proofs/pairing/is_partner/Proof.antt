@@ -2,11 +2,11 @@ use borrow.Author.Needs.{needs}
 use Rattle.serving.proofs.pairing.is_partner.Statement.{statement}
 use Rattle.serving.proofs.pairing.is_partner.Tie as tie
 
-pairs-requires : tie.Need-pairs-requires
-pairs-requires c κs = search needs
+calls-pair-requires : tie.Need-calls-pair-requires
+calls-pair-requires c κs = search needs
 
 returns : tie.Need-returns
-returns c = rw (c .pairs .ensures)
+returns c = rw (c .calls-pair .ensures)
 
 pub is-partner-spec : {M : Type 1} → statement M
-is-partner-spec = tie.close (tie.spec pairs-requires returns)
+is-partner-spec = tie.close (tie.spec calls-pair-requires returns)

@@ -2,8 +2,8 @@
 use native.Mathlib.Omega.{arith}
 use borrow.Author.Needs.{needs}
 use Rattle.log_text.proofs.TextLaws.{join}
-use Rattle.log_text.proofs.put_field.Statement.{statement}
-use Rattle.log_text.proofs.put_field.Tie as tie
+use Rattle.log_text.proofs.put_spaced.Statement.{statement}
+use Rattle.log_text.proofs.put_spaced.Tie as tie
 
 put-decimal-requires : tie.Need-put-decimal-requires
 put-decimal-requires c κs = search needs
@@ -17,5 +17,5 @@ same-length c = search needs
 returns : tie.Need-returns
 returns c = join (omega arith) (c .before .before .before .before .before .before .put-decimal .ensures) (c .before .before .put .ensures)
 
-pub put-field-spec : {M : Type 1} → statement M
-put-field-spec = tie.close (tie.spec put-decimal-requires put-requires same-length returns)
+pub put-spaced-spec : {M : Type 1} → statement M
+put-spaced-spec = tie.close (tie.spec put-decimal-requires put-requires same-length returns)

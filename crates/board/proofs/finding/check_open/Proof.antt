@@ -1,6 +1,6 @@
 use borrow.Author.Needs.{needs}
-use Rattle.board.proofs.finding.look_over.Statement.{statement}
-use Rattle.board.proofs.finding.look_over.Tie as tie
+use Rattle.board.proofs.finding.check_open.Statement.{statement}
+use Rattle.board.proofs.finding.check_open.Tie as tie
 use Prim.Native.Nat.{ℕ, _≤_, _-_}
 use native.Mathlib.Omega.{arith}
 use mathlib.Core.Path.{_≡_, refl}
@@ -79,8 +79,8 @@ returns c =
       any-end (matchesKey key.Empty) (s .args .t1 .rows) (turn .k) (omega arith) (turn .inv .1 .empty),
     )
 
-pub look-over-spec : {M : Type 1} → statement M
-look-over-spec =
+pub check-open-spec : {M : Type 1} → statement M
+check-open-spec =
     tie.close
     (tie.spec
     Inv-loop

@@ -5,8 +5,8 @@ use lib.Seq.{length-take-le}
 use borrow.Author.Needs.{needs}
 use Rattle.rules.specs.Step.{stepTested}
 use Rattle.playing.proofs.PlayingLaws.{count-within, told, outcome-short}
-use Rattle.playing.proofs.tell.Statement.{statement}
-use Rattle.playing.proofs.tell.Tie as tie
+use Rattle.playing.proofs.play_record.Statement.{statement}
+use Rattle.playing.proofs.play_record.Tie as tie
 
 -- the reply buffer keeps its length
 long : (c : tie.After-step-tested) → length (c .step-tested .last .1 .1 .1 .0) ≡ 128
@@ -53,8 +53,8 @@ returns c =
           (rw (sym (s .1 .count), sym (long at)) (count-within (s .1) (long at)))),
     )
 
-pub tell-spec : {M : Type 1} → statement M
-tell-spec =
+pub play-record-spec : {M : Type 1} → statement M
+play-record-spec =
     tie.close
     (tie.spec
     slice-aggregate-step-tested
