@@ -9,7 +9,6 @@ use mathlib.Core.Bool.{Bool, true, false, _&&_, _||_, not}
 use mathlib.Core.List.{List, [], _∷_}
 use mathlib.Core.Option.{Option, none, some, Option·map}
 use lib.Dec.{eqb}
-use lib.IntN.{ℤ}
 use lib.ListN.{length, getD, set, take, drop, drop-of-length-le}
 use lib.Seq.{drop-cons, take-all}
 use Rattle.octets.specs.declared.CallReference.{CallReference}
@@ -23,7 +22,7 @@ use Rattle.board.specs.declared.Row.{Row}
 use Rattle.board.specs.declared.Found.the-variants.{At, Nothing}
 use Rattle.board.specs.declared.finding.Key.{Key}
 use Rattle.board.specs.declared.finding.Key.the-variants as key
-use Rattle.board.specs.Entries.{Entry, Party, entryOf, rowEntry, taken, occupied, partyOf, calls, hasLeg, hasReference, linkIdIn, isLinkId, hasLinkId, rowParty, hasPartyReference, hasPartyLinkId}
+use Rattle.board.specs.Entries.{Entry, Party, entryOf, rowEntry, taken, occupied, partyOf, calls, hasLeg, hasReference, hasLinkId, rowParty, hasPartyReference, hasPartyLinkId}
 use Rattle.board.specs.Lookup.{isCallOf, foundAt}
 use Rattle.board.specs.Code.Keys.{isEmpty, matchesKey, hasLinkIdOf}
 use Rattle.board.specs.Making.{emptyRow}

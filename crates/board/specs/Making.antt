@@ -1,7 +1,6 @@
 -- Making a fresh board (document 01, "The board": the first paragraph).
 use Prim.Native.Nat.{ℕ}
-use mathlib.Core.Bool.{Bool, true, false, cond}
-use mathlib.Core.List.{List, []}
+use mathlib.Core.Bool.{cond}
 use lib.IntN.{pos}
 use lib.ListN.{replicate}
 use Rattle.board.specs.declared.Standing.the-variants.{Empty}

@@ -2,7 +2,6 @@
 use Prim.Native.Nat.{ℕ, _%_}
 use mathlib.Core.Bool.{Bool, true, false, _&&_, _||_, not}
 use lib.Dec.{eqb}
-use Rattle.octets.specs.declared.CallReference.{CallReference}
 use Rattle.board.specs.declared.Direction.{Direction}
 use Rattle.board.specs.declared.Direction.the-variants.{Outgoing, Incoming}
 use Rattle.board.specs.declared.CallState.{CallState}

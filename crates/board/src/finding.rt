@@ -139,7 +139,8 @@ pub fn lookup(board: Board, reference: CallReference) -> Found
     find(board, Key::Reference(reference))
 }
 
-// The first LinkId that is not live, from `first` upward. With fewer than the most live, one of that many values is free.
+// The first LinkId that is not live, from `first` upward. With fewer than the most live, one of that many values is
+// free.
 fn free_from(board: Board, first: LinkId) -> OptionalLinkId
     ensures { λ r. ⌜ r ≡ optionalLinkId (freeLinkId mostLinkIds (first .0) (live (calls (taken (board .rows))))) ⌝ }
 {
@@ -155,7 +156,8 @@ fn free_from(board: Board, first: LinkId) -> OptionalLinkId
 
 // The LinkId that the board gives next.
 pub fn free_link_id(board: Board) -> OptionalLinkId
-    ensures { λ r. ⌜ r ≡ optionalLinkId (freeLinkId mostLinkIds (board .candidate .0) (live (calls (taken (board .rows))))) ⌝ }
+    ensures { λ r. ⌜ r ≡ optionalLinkId (freeLinkId mostLinkIds (board .candidate .0)
+        (live (calls (taken (board .rows))))) ⌝ }
 {
     let candidate = board.candidate;
     free_from(board, candidate)

@@ -6,13 +6,12 @@ use mathlib.Core.Path.{_≡_, refl, sym, ap, _∙_}
 use mathlib.Core.List.{List, [], _∷_}
 use mathlib.Core.Bool.{Bool, true, false, not, _&&_, _||_, cond}
 use lib.ListN.{length, getD, take, drop, length-drop}
-use lib.Seq.{take-all}
 use lib.Dec.{eqb, leb, ltb}
 use Rattle.octets.proofs.Places.{rest}
 use Rattle.component.specs.declared.elements.FirstElement.{FirstElement}
 use Rattle.component.specs.declared.elements.FirstElement.the-variants as first
 use Rattle.component.specs.Elements.{Element, Bad, Whole, validHead, firstElement, constructed, wellFormed, siblings, wholeElements}
-use Rattle.component.specs.Code.Readers.{elementOf, elementEnd, FirstElementRead, checked}
+use Rattle.component.specs.Code.Readers.{elementOf, FirstElementRead, checked}
 
 -- ---- parts of a slice
 drop-two : (n a b : ℕ) (s : List ℕ) → drop (n + 2) (a ∷ b ∷ s) ≡ drop n s

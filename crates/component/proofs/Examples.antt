@@ -1,9 +1,9 @@
 -- Worked examples, computed: what some components are read as, and LinkIds in the fewest octets. Assumes nothing.
 use mathlib.Core.Path.{_≡_, refl}
-use mathlib.Core.List.{List, [], _∷_, _++_}
+use mathlib.Core.List.{List, [], _∷_}
 use Prim.Native.Nat.{ℕ}
 use lib.IntN.{pos, negsuc}
-use Rattle.octets.specs.declared.IntegerOctets.the-variants.{One, Two}
+use Rattle.octets.specs.declared.IntegerOctets.the-variants.{One}
 use Rattle.octets.specs.Numbers.{fewest}
 use Rattle.component.specs.declared.Operation.the-variants.{EctExecute, ExplicitEctExecute, EctLinkIdRequest}
 use Rattle.component.specs.declared.Reject.the-variants.{Null}

@@ -1,6 +1,6 @@
 -- What a component is read as (document 01, "Reading a component", in the order of its list).
 use Prim.Native.Nat.{ℕ}
-use mathlib.Core.Bool.{Bool, true, false, _&&_, cond}
+use mathlib.Core.Bool.{_&&_, cond}
 use mathlib.Core.List.{List, [], _∷_}
 use mathlib.Core.Option.{Option, none, some}
 use lib.Dec.{eqb, leb}
@@ -10,9 +10,7 @@ use Rattle.octets.specs.declared.IntegerOctets.{IntegerOctets}
 use Rattle.octets.specs.declared.IntegerOctets.the-variants.{One, Two}
 use Rattle.octets.specs.Lists.{sameOctets}
 use Rattle.octets.specs.Numbers.{integerOf, sameInteger}
-use Rattle.component.specs.declared.Operation.{Operation}
 use Rattle.component.specs.declared.Operation.the-variants.{EctExecute, ExplicitEctExecute, EctLinkIdRequest}
-use Rattle.component.specs.declared.Reject.{Reject}
 use Rattle.component.specs.declared.Reject.the-variants.{Null, General, Invoke}
 use Rattle.component.specs.declared.Reading.{Reading}
 use Rattle.component.specs.declared.Reading.the-variants.{Ignored, Rejected, Invoked}

@@ -5,7 +5,7 @@ use crate::Reject;
 use octets::IntegerOctets;
 use octets::LinkId;
 ghost use mathlib.Core.Path.{_≡_};
-ghost use mathlib.Core.List.{List, [], _∷_};
+ghost use mathlib.Core.List.{[], _∷_};
 ghost use Prim.Native.Nat.{_+_, _≤_, _<_};
 ghost use lib.ListN.{length};
 ghost use Rattle.component.specs.declared.Answer.the-variants.{LinkIdResult};

@@ -39,7 +39,8 @@ pub fn first_element(s: &[u8]) -> FirstElement
 
 // The first element, whose contents may nest `depth` deep.
 pub fn read_element(s: &[u8], depth: u8) -> FirstElement
-    ensures { λ r. ⌜ FirstElementRead (now (s .entry)) r (checked (wholeElements depth) (firstElement (now (s .entry)))) ⌝ }
+    ensures { λ r. ⌜ FirstElementRead (now (s .entry)) r
+        (checked (wholeElements depth) (firstElement (now (s .entry)))) ⌝ }
 {
     let FirstElement::Whole { tag, len } = first_element(s) else {
         return FirstElement::Bad;

@@ -3,7 +3,7 @@ use borrow.Author.Tests.{lt-ltb, le-ltb}
 use Prim.Native.Nat.{_<_, _≤_, ℕ}
 use mathlib.Core.Path.{_∙_, ap, refl, subst, subst⁻¹, _≡_}
 use mathlib.Core.Bool.{Bool, cond, false, true}
-use mathlib.Core.List.{_++_, List}
+use mathlib.Core.List.{List}
 use lib.ListN.{length}
 use Rattle.octets.specs.Buffers.{frontWritten}
 use Rattle.board.specs.Soundness.{sound}

@@ -45,7 +45,8 @@ fn transfer(
     second: Party,
     identifier: IntegerOctets,
 ) -> Effect
-    ensures { λ r. ⌜ EffectOf r board (serviceDecision (board .options) party (Service.Transfer first second identifier)) ⌝ }
+    ensures { λ r. ⌜ EffectOf r board (serviceDecision (board .options) party
+        (Service.Transfer first second identifier)) ⌝ }
 {
     let call = party.call;
     let reference = call.reference;

@@ -4,12 +4,10 @@ use native.Mathlib.Nat.{add-assoc, add-zero, zero-add}
 use native.Mathlib.Omega.{arith}
 use native.Mathlib.Numerals.{add-one}
 use mathlib.Core.Path.{_≡_, refl, sym, ap, _∙_}
-use mathlib.Core.List.{List, [], _∷_, _++_, append-assoc, append-nil}
-use mathlib.Core.Bool.{Bool, cond}
+use mathlib.Core.List.{List, [], _∷_, _++_, append-assoc}
 use native.Mathlib.Decide.{decLt}
-use lib.Dec.{leb}
-use lib.ListN.{length, getD, take, drop, set, length-append, length-take, length-drop, length-set, take-append-drop}
-use lib.Seq.{take-suc, set-split, take-at, drop-at, drop-drop, length-take-le}
+use lib.ListN.{length, getD, take, drop, set, length-append, length-take, length-set, take-append-drop}
+use lib.Seq.{take-suc, set-split, take-at, drop-at, drop-drop}
 use borrow.Author.Tests.{lt-ltb, le-ltb, le-leb, lt-leb}
 use Rattle.log_text.specs.Lines.{digit, decimalIn, decimal, hexOctet, hexOctets, octetsText, space, spaced, recordLine, endLine}
 use Rattle.octets.specs.Buffers.{writtenAt}

@@ -2,7 +2,7 @@
 // Each call writes its line at the front of the buffer lent and returns how many octets that is. Where the line
 // does not fit it returns 0 and leaves the buffer untouched.
 ghost use mathlib.Core.Path.{_≡_};
-ghost use mathlib.Core.List.{List, [], _∷_};
+ghost use mathlib.Core.List.{[], _∷_};
 ghost use Prim.Native.Nat.{_+_, _/_, _≤_, _<_};
 ghost use lib.Dec.{leb};
 ghost use lib.ListN.{length};

@@ -1,5 +1,5 @@
 -- Tests, choices and searches over lists: what the rules mean by "some", "each", "without", "distinct" and "the first".
-use Prim.Native.Nat.{ℕ, zero, suc}
+use Prim.Native.Nat.{ℕ, suc}
 use mathlib.Core.Bool.{Bool, true, false, _&&_, _||_, not}
 use mathlib.Core.List.{List, [], _∷_}
 use mathlib.Core.Option.{Option, none, some}

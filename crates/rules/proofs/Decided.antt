@@ -12,7 +12,7 @@ use Rattle.board.specs.declared.Connection.{Connection}
 use Rattle.board.specs.declared.Connection.the-variants.{WithUser, WithPartner}
 use Rattle.board.specs.declared.Entry.{Entry}
 use Rattle.board.specs.declared.Party.{Party}
-use Rattle.board.specs.Entries.{isLinkId, hasLeg, hasReference, calls, hasPartyReference, linkIdIn, hasPartyLinkId}
+use Rattle.board.specs.Entries.{hasLeg, hasReference, calls, hasPartyReference, linkIdIn, hasPartyLinkId}
 use Rattle.board.specs.LinkIds.{freeLinkId, live, mostLinkIds}
 use Rattle.board.specs.States.{holdable}
 use Rattle.board.specs.declared.AuxiliaryState.{AuxiliaryState}

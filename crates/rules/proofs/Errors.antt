@@ -5,7 +5,7 @@ use mathlib.Core.Bool.{Bool, false, true, cond}
 use mathlib.Core.List.{_++_, _∷_, List, []}
 use lib.Dec.{eqb, ltb}
 use lib.IntN.{ℤ}
-use lib.ListN.{getD, replicate, length}
+use lib.ListN.{getD}
 use Rattle.octets.specs.declared.IntegerOctets.{IntegerOctets}
 use Rattle.board.specs.declared.Connection.{Connection}
 use Rattle.board.specs.declared.Connection.the-variants.{WithUser, WithPartner}

@@ -29,7 +29,6 @@ use Rattle.octets.specs.Lists.{filter, any}
 use Rattle.octets.specs.Numbers.{sameInteger, nextLinkId}
 use Rattle.octets.specs.declared.IntegerOctets.{IntegerOctets}
 use Rattle.octets.specs.Tests.{has}
-use Rattle.events.specs.declared.Refusal.the-variants as refusal
 
 -- ---- one call for a reference, one for a LinkId
 

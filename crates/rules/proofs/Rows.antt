@@ -2,7 +2,7 @@
 use Prim.Native.Nat.{_≤_, ℕ, zero-le, suc, suc-le-suc}
 use native.Mathlib.Nat.{le-step}
 use mathlib.Core.Path.{_∙_, _≡_, ap, refl, ap₂, sym}
-use mathlib.Core.Bool.{_&&_, _||_, Bool, cond, true, false, not}
+use mathlib.Core.Bool.{_||_, Bool, cond, true, false, not}
 use mathlib.Core.List.{_∷_, map, List, []}
 use mathlib.Core.Option.{Option, Option·map, none, some}
 use lib.Dec.{eqb, leb, leb·suc-suc}
@@ -15,7 +15,7 @@ use Rattle.board.specs.declared.Connection.the-variants.{WithPartner, WithUser}
 use Rattle.board.specs.declared.Entry.{Entry}
 use Rattle.board.specs.Entries.{taken, rowEntry, entryOf, occupied, isNumber}
 use Rattle.board.specs.Making.{emptyRow}
-use Rattle.board.specs.Soundness.{validDigits, validNumber, validStanding, validRow}
+use Rattle.board.specs.Soundness.{validNumber, validStanding, validRow}
 use Rattle.board.specs.States.{delivered, validReference}
 use Rattle.board.specs.declared.Call.{Call}
 use Rattle.board.specs.declared.Change.{Change}

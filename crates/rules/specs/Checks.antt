@@ -4,7 +4,6 @@ use Prim.Native.Nat.{ℕ}
 use mathlib.Core.Bool.{Bool, true, false, _&&_, cond}
 use mathlib.Core.List.{List}
 use mathlib.Core.Option.{Option, none, some}
-use lib.Dec.{eqb}
 use lib.IntN.{ℤ}
 use Rattle.octets.specs.declared.LinkId.{LinkId}
 use Rattle.octets.specs.Lists.{any, find}

@@ -2,11 +2,10 @@
 -- the same, then its answer, then a release.
 use Prim.Native.Nat.{ℕ}
 use mathlib.Core.Path.{_≡_}
-use mathlib.Core.Bool.{Bool, true, false}
+use mathlib.Core.Bool.{true, false}
 use mathlib.Core.List.{List, [], _∷_, _++_, map}
 use Rattle.octets.specs.Lists.{any}
-use Rattle.board.specs.declared.Connection.{Connection}
-use Rattle.board.specs.declared.Connection.the-variants.{WithUser, WithPartner}
+use Rattle.board.specs.declared.Connection.the-variants.{WithPartner}
 use Rattle.board.specs.declared.Entry.{Entry}
 use Rattle.board.specs.Entries.{entry, taken, isJoined}
 use Rattle.board.specs.Making.{fresh}

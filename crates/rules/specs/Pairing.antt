@@ -1,6 +1,6 @@
 -- The pair rule (document 01, "Serving it"; ETS 300 369-1, table 4).
 use Prim.Native.Nat.{ℕ}
-use mathlib.Core.Bool.{Bool, true, false, _&&_, _||_, cond}
+use mathlib.Core.Bool.{Bool, _&&_, _||_, cond}
 use lib.Dec.{eqb}
 use Rattle.board.specs.declared.Options.{Options}
 use Rattle.board.specs.declared.Call.{Call}

@@ -8,8 +8,7 @@ use lib.Dec.{eqb, leb}
 use lib.IntN.{ℤ}
 use lib.ListN.{length}
 use Rattle.octets.specs.declared.IntegerOctets.{IntegerOctets}
-use Rattle.octets.specs.declared.LinkId.{LinkId}
-use Rattle.octets.specs.Lists.{filter, find, only, filterMap}
+use Rattle.octets.specs.Lists.{filter, find, only}
 use Rattle.component.specs.declared.Operation.{Operation}
 use Rattle.component.specs.declared.Operation.the-variants.{EctExecute, ExplicitEctExecute, EctLinkIdRequest}
 use Rattle.component.specs.declared.Reading.{Reading}
@@ -17,7 +16,7 @@ use Rattle.component.specs.declared.Reading.the-variants.{Ignored, Rejected, In
 use Rattle.component.specs.declared.Answer.the-variants as answer
 use Rattle.board.specs.declared.Options.{Options}
 use Rattle.board.specs.declared.Party.{Party}
-use Rattle.board.specs.Entries.{linkIdIn, isLinkId, hasPartyLinkId}
+use Rattle.board.specs.Entries.{linkIdIn, hasPartyLinkId}
 use Rattle.board.specs.LinkIds.{mostLinkIds, freeLinkId, live}
 -- what a component comes to
 pub use Rattle.rules.specs.declared.Service.{Service}

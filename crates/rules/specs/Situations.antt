@@ -114,8 +114,12 @@ pub record Situations : Type 0 where
   pub seventeenth-call : numberAndOctets sixteenLive (facilityRecord ectLinkIdRequest 17) ≡ errorOn 17 11
   pub one-of-the-16 : numberAndOctets sixteenLive (facilityRecord ectLinkIdRequest 5) ≡ linkIdOn 5 (pos 4)
   -- "Explicit with the named call's own LinkId: 7." "Unsubscribed and LinkId unknown: 0."
-  pub explicit-with-own-link : numberAndOctets (afterRecords (heldAndIdle 2) (facilityRecord ectLinkIdRequest 1 ∷ [])) (facilityRecord (explicitEctExecute 0) 1) ≡ errorOn 1 7
-  pub unsubscribed-and-link-unknown : numberAndOctets (afterRecords (fresh 0 0 .board) (openRecord 1 ∷ [])) (facilityRecord (explicitEctExecute 9) 1) ≡ errorOn 1 0
+  pub explicit-with-own-link :
+      numberAndOctets (afterRecords (heldAndIdle 2) (facilityRecord ectLinkIdRequest 1 ∷ [])) (facilityRecord (explicitEctExecute 0) 1)
+      ≡ errorOn 1 7
+  pub unsubscribed-and-link-unknown :
+      numberAndOctets (afterRecords (fresh 0 0 .board) (openRecord 1 ∷ [])) (facilityRecord (explicitEctExecute 9) 1)
+      ≡ errorOn 1 0
   -- "One Active Held, two Active Idle: EctExecute on the held one, 7; on an idle one, transfer."
   pub execute-on-the-held-one : numberAndOctets (heldAndIdle 3) (facilityRecord ectExecute 1) ≡ errorOn 1 7
   pub execute-on-an-idle-one :

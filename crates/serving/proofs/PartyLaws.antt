@@ -5,23 +5,19 @@ use mathlib.Core.Path.{_∙_, refl, ap, sym, _≡_}
 use mathlib.Core.Bool.{Bool}
 use mathlib.Core.List.{[], List}
 use mathlib.Core.Option.{none, Option, some}
-use lib.ListN.{getD}
 use Rattle.board.proofs.Searches.{elementAt, find-at, entry-by-leg}
-use Rattle.board.specs.Entries.{partyOf, entryOf, calls, taken, foundParty, foundEntry, rowEntry, rowParty}
+use Rattle.board.specs.Entries.{calls, taken, foundParty, foundEntry, rowEntry, rowParty}
 use Rattle.board.specs.Code.Keys.{matchesKey}
 use Rattle.board.specs.Lookup.{foundRow}
-use Rattle.board.specs.declared.Entry.{Entry}
 use Rattle.board.specs.declared.Party.{Party}
 use Rattle.board.specs.declared.Row.{Row}
-use Rattle.board.specs.declared.Standing.{Standing}
-use Rattle.board.specs.declared.Standing.the-variants.{Empty, Served, Joined}
+use Rattle.board.specs.declared.Standing.the-variants.{Empty}
 use Rattle.rules.specs.Checks.{entryAt}
 use Rattle.octets.proofs.Places.{valueAt}
 use Rattle.octets.specs.Lists.{find, placeFrom}
 use Rattle.board.specs.declared.finding.Key.{Key}
 use Rattle.board.specs.declared.finding.Key.the-variants as key
 use Rattle.board.specs.declared.FoundParty.the-variants as found-party
-use Rattle.octets.specs.Tests.{bindOption}
 
 -- what lies past the end of the rows
 abbrev pub noRow : Row

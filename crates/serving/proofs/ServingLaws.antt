@@ -4,21 +4,16 @@ use Prim.Native.Nat.{_<_, _≤_, ℕ}
 use native.Mathlib.Omega.{arith}
 use mathlib.Core.Path.{_∙_, refl, ap, sym, _≡_}
 use mathlib.Core.Bool.{Bool, cond}
-use mathlib.Core.List.{_∷_, List, []}
+use mathlib.Core.List.{List}
 use mathlib.Core.Option.{none, Option, some}
 use lib.Dec.{leb}
 use lib.ListN.{length}
 use lib.IntN.{ℤ}
 use Rattle.board.specs.Counts.{links}
-use Rattle.board.specs.Entries.{linkIdOf, calls, partyOf, linkIdIn, taken}
+use Rattle.board.specs.Entries.{calls, taken}
 use Rattle.board.specs.LinkIds.{mostLinkIds, freeLinkId, optionalLinkId, live}
 use Rattle.board.specs.Code.Tallies.{tallyOf}
-use Rattle.board.specs.declared.Connection.{Connection}
-use Rattle.board.specs.declared.Connection.the-variants.{WithUser, WithPartner}
-use Rattle.board.specs.declared.Entry.{Entry}
 use Rattle.board.specs.declared.Row.{Row}
-use Rattle.octets.proofs.Laws.{link}
-use Rattle.octets.specs.Lists.{filterMap, consOpt}
 use Rattle.octets.specs.declared.IntegerOctets.{IntegerOctets}
 use Rattle.octets.specs.declared.LinkId.{LinkId}
 use Rattle.rules.proofs.Kept.{live-length}

@@ -49,7 +49,8 @@ fn assign_link_id(board: Board, identifier: IntegerOctets) -> Service
 }
 
 fn request_link_id(board: Board, named: Party, identifier: IntegerOctets) -> Service
-    ensures { λ r. ⌜ r ≡ linkIdRequest (board .candidate .0) (live (partiesOf board)) identifier (linkIdIn (named .call .link)) ⌝ }
+    ensures { λ r. ⌜ r ≡ linkIdRequest (board .candidate .0) (live (partiesOf board)) identifier
+        (linkIdIn (named .call .link)) ⌝ }
 {
     let call = named.call;
     let link = call.link;

@@ -13,7 +13,7 @@ use row_changes::is_delivered;
 ghost use mathlib.Core.Path.{_≡_};
 ghost use Rattle.octets.specs.Lists.{only, filter};
 ghost use Rattle.board.specs.States.{stateNumber, auxiliaryNumber, directionNumber};
-ghost use Rattle.board.specs.States.{active, delivered, idle, held, outgoing};
+ghost use Rattle.board.specs.States.{active, idle, held, outgoing};
 ghost use Rattle.board.specs.Entries.{foundParty};
 ghost use Rattle.rules.specs.Pairing.{heldWithIdle, activeWithDelivered, verdict as verdictOf, callsPair};
 ghost use Rattle.rules.specs.Serving.{partnerFor};

@@ -2,24 +2,22 @@
 use Prim.Native.Nat.{ℕ, _+_, _≤_, _<_}
 use native.Mathlib.Omega.{arith}
 use mathlib.Core.Path.{_≡_, refl, sym, ap, _∙_}
-use mathlib.Core.Bool.{Bool, true, false, _&&_}
+use mathlib.Core.Bool.{Bool, true, false}
 use mathlib.Core.List.{List}
 use mathlib.Core.Option.{none}
-use lib.Dec.{eqb, leb}
-use lib.ListN.{length, getD, set, take, drop}
+use lib.ListN.{length, getD, set, drop}
 use lib.Seq.{length-take-le}
 use Rattle.octets.specs.Lists.{all, filterMap}
 use Rattle.octets.proofs.Loops.{step-at, past-end, all-yes, all-no, all-end}
 use Rattle.board.specs.declared.Standing.{Standing}
 use Rattle.board.specs.declared.Row.{Row}
 use Rattle.board.specs.Entries.{entryOf, rowEntry, taken}
-use Rattle.board.specs.Soundness.{soundRows}
 use Rattle.board.specs.Code.RowTests.{fits, takenRow}
 use Rattle.board.proofs.Rows.{empty-standing, unfit-rows}
 use Rattle.row_soundness.specs.declared.keys.RowKey.{RowKey}
 use Rattle.row_soundness.specs.Code.RowKeys.{keyOf}
 use Rattle.soundness.specs.declared.Columns.{Columns}
-use Rattle.soundness.specs.Code.Columns.{legIn, referenceIn, linkIn, ownIn, partnerIn, alertingIn, soundColumns, Gathered}
+use Rattle.soundness.specs.Code.Columns.{legIn, referenceIn, linkIn, ownIn, partnerIn, alertingIn, Gathered}
 use Rattle.soundness.proofs.ColumnLaws.{Column, column-start, column-skip, column-step, column-end, gives-leg, gives-reference, gives-link, gives-own, gives-partner, gives-alerting}
 use Rattle.soundness.proofs.ColumnSoundness.{sound-by-columns}
 

@@ -146,8 +146,8 @@ pub fn add_up(rows: [Row; 64]) -> Tally
     }
 }
 
-// What the rows have to be compared by: each column holds as many numbers as its count says. `fit` says whether each row
-// obeys the rules by itself; where one does not, nothing is compared.
+// What the rows have to be compared by: each column holds as many numbers as its count says. `fit` says whether each
+// row obeys the rules by itself; where one does not, nothing is compared.
 struct Columns {
     fit: bool,
     taken: usize,

@@ -1,7 +1,7 @@
 -- The tests of one row, and of two, that the soundness of rows comes to: each is a test of Soundness put to the entries of rows. A row that is empty has none.
 use Prim.Native.Nat.{ℕ}
 use mathlib.Core.Bool.{Bool, true, _&&_, _||_, not}
-use mathlib.Core.Option.{Option, none}
+use mathlib.Core.Option.{Option}
 use lib.Dec.{eqb}
 use Rattle.octets.specs.Tests.{has, noneOr, hasBoth}
 use Rattle.board.specs.declared.Row.{Row}

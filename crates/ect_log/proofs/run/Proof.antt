@@ -1,6 +1,5 @@
 -- `ect_log::run` is safe and ends. The measure is the number of turns that are left. Assumes nothing.
 use Prim.Native.Nat.{_≤_}
-use native.Mathlib.Omega.{arith}
 use mathlib.Core.Path.{_≡_}
 use lib.ListN.{length}
 use borrow.Author.Needs.{needs}

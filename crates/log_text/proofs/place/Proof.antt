@@ -1,5 +1,4 @@
 -- `log_text::place` meets its contract. Assumes nothing.
-use native.Mathlib.Omega.{arith}
 use borrow.Author.Needs.{needs}
 use Rattle.log_text.proofs.TextLaws.{put-all, put-none}
 use Rattle.log_text.proofs.place.Statement.{statement}

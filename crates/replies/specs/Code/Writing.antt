@@ -8,7 +8,6 @@ use Rattle.octets.specs.declared.IntegerOctets.{IntegerOctets}
 use Rattle.octets.specs.Code.Appending.{Appended}
 use Rattle.component.specs.declared.Answer.the-variants as answer
 use Rattle.replies.specs.declared.Out.{Out}
-use Rattle.rules.specs.declared.TellNumber.{TellNumber}
 use Rattle.replies.specs.declared.FarParty.{FarParty}
 use Rattle.rules.specs.Replies.{ReplyRecord, Reply, octets, NamedFirst, drops, told}
 

@@ -1,6 +1,6 @@
 -- What a walk through lent rows has so far, once one row more is read.
 use Prim.Native.Nat.{ℕ, _+_, _/_}
-use mathlib.Core.Bool.{Bool, _&&_, _||_, not, cond}
+use mathlib.Core.Bool.{_&&_, _||_, not, cond}
 use mathlib.Core.List.{List}
 use lib.Dec.{leb, ltb}
 use lib.ListN.{drop}

@@ -1,16 +1,13 @@
 -- The parties of a board, and what the code finds among them.
-use Prim.Native.Nat.{ℕ}
-use mathlib.Core.Bool.{Bool, true, false}
+use mathlib.Core.Bool.{Bool}
 use mathlib.Core.List.{List}
-use mathlib.Core.Option.{Option, none, some}
+use mathlib.Core.Option.{Option}
 use lib.IntN.{ℤ}
 use Rattle.octets.specs.declared.LinkId.{LinkId}
 use Rattle.octets.specs.declared.IntegerOctets.{IntegerOctets}
 use Rattle.octets.specs.Lists.{filter, find}
 use Rattle.octets.specs.Tests.{has}
 use Rattle.component.specs.declared.Operation.{Operation}
-use Rattle.board.specs.declared.Standing.{Standing}
-use Rattle.board.specs.declared.Standing.the-variants.{Empty, Served, Joined}
 use Rattle.board.specs.declared.Row.{Row}
 use Rattle.board.specs.declared.Options.{Options}
 use Rattle.board.specs.declared.Board.{Board}

@@ -92,12 +92,17 @@ all-joined-back-requires c κs =
 
 returns-6 : tie.Need-returns-6
 returns-6 c =
+    let four = c .before .before .before .before .before .before .before .before in
+    let three = four .before .before .before .before .before in
+    let two = three .before .before .before .before .before in
+    let one = two .before .before .before .before .before in
+    let gathered = one .before in
     rw (
-      sym (c .before .before .before .before .before .before .before .before .before .before .before .before .before .before .before .before .before .before .before .before .before .before .before .before .gather .ensures .sound),
-      not-false (c .before .before .before .before .before .before .before .before .before .before .before .before .before .before .before .before .before .before .before .before .before .before .before .before .gather .result .fit) (c .before .before .before .before .before .before .before .before .before .before .before .before .before .before .before .before .before .before .before .before .before .before .before .if1 .left),
-      sym (c .before .before .before .before .before .before .before .before .before .before .before .before .before .before .before .before .before .before .before .all-differ .ensures) ∙ not-false _ (c .before .before .before .before .before .before .before .before .before .before .before .before .before .before .before .before .before .before .if2 .left),
-      sym (c .before .before .before .before .before .before .before .before .before .before .before .before .before .before .all-differ2 .ensures) ∙ not-false _ (c .before .before .before .before .before .before .before .before .before .before .before .before .before .if3 .left),
-      sym (c .before .before .before .before .before .before .before .before .before .all-differ3 .ensures) ∙ not-false _ (c .before .before .before .before .before .before .before .before .if4 .left),
+      sym (gathered .gather .ensures .sound),
+      not-false (gathered .gather .result .fit) (one .if1 .left),
+      sym (two .before .all-differ .ensures) ∙ not-false _ (two .if2 .left),
+      sym (three .before .all-differ2 .ensures) ∙ not-false _ (three .if3 .left),
+      sym (four .before .all-differ3 .ensures) ∙ not-false _ (four .if4 .left),
       le-leb _ _ (c .before .before .before .before .before .before .before .if5 .left),
     )
     (c .all-joined-back .ensures)

@@ -60,10 +60,20 @@ returns-8 : tie.Need-returns-8
 returns-8 c = of-kind (c .before .before .before .before .before .before .before .before .before .before .before .before .args .event .now) 5 (c .before .before .before .before .before .before .before .before .before .before .if1 .left) (c .before .if8 .taken) (c .read-facility .ensures)
 
 read-answer-requires : tie.Need-read-answer-requires
-read-answer-requires c κs = as-long (c .before .before .before .before .before .before .before) 6 (c .before .before .before .before .before .if3 .left) (answer-kind (getD (c .before .before .before .before .before .before .before .before .before .before .before .args .event .now) 0 0) (c .before .before .before .before .before .before .before .record-length .ensures) (c .before .before .before .before .before .before .if2 .left) (c .before .before .before .before .if4 .left) (c .before .before .before .if5 .left) (c .before .before .if6 .left) (c .before .if7 .left) (c .if8 .left))
+read-answer-requires c κs =
+    let s = c .before .before .before .before .before .before in
+    as-long (s .before) 6 (c .before .before .before .before .before .if3 .left)
+    (answer-kind (getD (s .before .before .before .before .before .args .event .now) 0 0) (s .before .record-length .ensures) (s .if2 .left)
+    (c .before .before .before .before .if4 .left) (c .before .before .before .if5 .left) (c .before .before .if6 .left) (c .before .if7 .left) (c .if8 .left))
 
 returns-9 : tie.Need-returns-9
-returns-9 c = of-kind (c .before .before .before .before .before .before .before .before .before .before .before .before .args .event .now) 6 (c .before .before .before .before .before .before .before .before .before .before .if1 .left) (answer-kind (getD (c .before .before .before .before .before .before .before .before .before .before .before .before .args .event .now) 0 0) (c .before .before .before .before .before .before .before .before .record-length .ensures) (c .before .before .before .before .before .before .before .if2 .left) (c .before .before .before .before .before .if4 .left) (c .before .before .before .before .if5 .left) (c .before .before .before .if6 .left) (c .before .before .if7 .left) (c .before .if8 .left)) (c .read-answer .ensures)
+returns-9 c =
+    let s = c .before .before .before .before .before .before .before in
+    let os = s .before .before .before .before .before .args .event .now in
+    of-kind os 6 (s .before .before .before .if1 .left)
+    (answer-kind (getD os 0 0) (s .before .record-length .ensures) (s .if2 .left) (c .before .before .before .before .before .if4 .left)
+    (c .before .before .before .before .if5 .left) (c .before .before .before .if6 .left) (c .before .before .if7 .left) (c .before .if8 .left))
+    (c .read-answer .ensures)
 
 pub read-request-spec : {M : Type 1} → statement M
 read-request-spec =
