@@ -1,4 +1,4 @@
--- Laws of tests, picks and look-ups over lists, and of lists that differ in their order alone.
+-- Laws of tests, filters and look-ups over lists, and of lists that differ in their order alone.
 use Prim.Native.Nat.{_+_, _≤_, ℕ, suc, suc-le-suc, zero-le}
 use native.Mathlib.Nat.{le-step, le-of-suc-le-suc, not-suc-le-zero, suc-ne-zero, le-refl}
 use native.Mathlib.Omega.{arith}
@@ -357,7 +357,7 @@ module _ {A B : Type 0} where
       go b c h e = subst (λ (d : Bool). length (consIf b (f x) (filter p (map f l))) ≡ length (consIf d x (filter q l))) h (same b e)
 
 module _ {B : Type 0} where
-  -- ---- picks
+  -- ---- filterMap
 
   pub consOpt-mem : (o : Option B) {y : B} {l : List B} → List·Memᴰ y (consOpt o l) → (o ≡ some y) ⊎ List·Memᴰ y l
   consOpt-mem none m = inr m
@@ -385,7 +385,7 @@ module _ {A B : Type 0} where
       go (some w) u = let d : w ≡ y = cc in List·Memᴰ·head (sym d)
   mem-filterMap f (List·Memᴰ·tail {x = x} m) h = consOpt-later (f x) (mem-filterMap f m h)
 
-  -- what is kept of a pick comes from what is kept of the list
+  -- what passes in a filterMap comes from what passes in the list
   pub filter-filterMap-le : (p : B → Bool) (f : A → Option B) (q : A → Bool) (l : List A) → ((x : A) → has p (f x) ≡ q x) →
       length (filter p (filterMap f l)) ≤ length (filter q l)
   filter-filterMap-le p f q [] h = zero-le

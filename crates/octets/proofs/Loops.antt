@@ -1,4 +1,4 @@
--- Laws of loops over a list, one step at a time, and of tests of what is picked from a list: they turn a loop over rows into a test of entries.
+-- Laws of loops over a list, one step at a time, and of tests of what `filterMap` gives of a list: they turn a loop over rows into a test of entries.
 use Prim.Native.Nat.{ℕ, suc, _+_, _≤_, _<_}
 use native.Mathlib.Numerals.{add-one}
 use native.Mathlib.Omega.{arith}
@@ -101,7 +101,7 @@ module _ {A : Type 0} where
       let c : length (filter p (drop i ys)) ≡ 0 = rw (s .rest) in
       omega (arith, t .total)
 
--- ---- tests of what is picked
+-- ---- tests of what `filterMap` gives
 
 module _ {A B : Type 0} (f : A → Option B) where
   pub all-filterMap : (p : B → Bool) (l : List A) → all p (filterMap f l) ≡ all (λ (x : A). noneOr p (f x)) l
@@ -165,7 +165,7 @@ module _ {A B : Type 0} (f : A → Option B) where
       go (some y) e = ap suc e
 
 module _ {A B : Type 0} where
-  -- an element at the end from which nothing is picked
+  -- an element at the end that gives nothing
   pub filterMap-skip : (f : A → Option B) (l : List A) (x : A) → f x ≡ none → filterMap f (l ++ (x ∷ [])) ≡ filterMap f l
   filterMap-skip f [] x e = rw e
   filterMap-skip f (y ∷ l) x e = ap (consOpt (f y)) (filterMap-skip f l x e)

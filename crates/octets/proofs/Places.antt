@@ -108,7 +108,7 @@ module _ {A : Type 0} where
   place-ext p q k [] f = refl
   place-ext p q k (x ∷ l) f = ap₂ (λ (b : Bool) (o : Option ℕ). orElse b k o) (f x) (place-ext p q (suc k) l f)
 
--- ---- what is found in a pick stands at the lowest place that gives it
+-- ---- what is found in a filterMap stands at the lowest place that gives it
 
 module _ {A B : Type 0} where
   -- what f finds in the element at a place, if there is one
@@ -148,7 +148,7 @@ module _ {A B : Type 0} where
   filterMap-ext f g (x ∷ l) h = ap₂ (λ (o : Option B) (r : List B). consOpt o r) (h x) (filterMap-ext f g l h)
 
 module _ {A B C : Type 0} where
-  -- a pick of a pick is one pick
+  -- a filterMap of a filterMap is one
   pub filterMap-filterMap : (g : B → Option C) (f : A → Option B) (l : List A) → filterMap g (filterMap f l) ≡ filterMap (λ (x : A). bindOption g (f x)) l
   filterMap-filterMap g f [] = refl
   filterMap-filterMap g f (x ∷ l) = go (f x) (filterMap-filterMap g f l)

@@ -1,4 +1,4 @@
--- `log_text::put_field` meets its contract. Assumes nothing.
+-- `log_text::put_spaced` meets its contract. Assumes nothing.
 use native.Mathlib.Omega.{arith}
 use borrow.Author.Needs.{needs}
 use Rattle.log_text.proofs.TextLaws.{join}

@@ -1,4 +1,4 @@
--- `playing::tell` meets its contract. Assumes nothing.
+-- `playing::play_record` meets its contract. Assumes nothing.
 use mathlib.Core.Path.{_≡_, sym}
 use lib.ListN.{length}
 use lib.Seq.{length-take-le}

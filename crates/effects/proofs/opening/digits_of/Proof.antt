@@ -1,4 +1,4 @@
--- `ect::records::digits_of` meets its contract. The invariant: the octets before `i` are copied. Assumes nothing.
+-- `effects::opening::digits_of` meets its contract. The invariant: the octets before `i` are copied. Assumes nothing.
 use Prim.Native.Nat.{_≤_, _-_}
 use native.Mathlib.Omega.{arith}
 use mathlib.Core.Path.{_≡_, refl, sym, _∙_}
