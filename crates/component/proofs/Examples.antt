@@ -42,9 +42,9 @@ unfolding with-more reading firstElement wholeElements siblings
 depth-5 = refl
 
 -- elements may be there at depth 4 and have nothing in them
-nothing-at-5 : reading (with-more 0x0E (0x30 ∷ 6 ∷ 0x30 ∷ 4 ∷ 0x30 ∷ 2 ∷ 0x30 ∷ 0 ∷ [])) ≡ Invoked (One 0x05) EctExecute
+noOctets-at-5 : reading (with-more 0x0E (0x30 ∷ 6 ∷ 0x30 ∷ 4 ∷ 0x30 ∷ 2 ∷ 0x30 ∷ 0 ∷ [])) ≡ Invoked (One 0x05) EctExecute
 unfolding with-more reading invokeReading identifiedReading firstElement wholeElements siblings
-nothing-at-5 = refl
+noOctets-at-5 = refl
 
 -- document 01, situations: "LinkId octets"
 octets-127 : integer (fewest (pos 127)) ≡ 0x02 ∷ 0x01 ∷ 0x7F ∷ []

@@ -28,17 +28,17 @@ abbrev pub wellFormed : (List ℕ → Bool) → (List ℕ → Bool) → Element 
 wellFormed inner more Bad = false
 wellFormed inner more (Whole tag contents rest) = (not (constructed tag) || inner contents) && more rest
 
-abbrev pub nothing : List ℕ → Bool
-nothing [] = true
-nothing (x ∷ s) = false
+abbrev pub noOctets : List ℕ → Bool
+noOctets [] = true
+noOctets (x ∷ s) = false
 
 -- elements side by side up to the end, at most `count` of them
 unfoldable pub siblings : (List ℕ → Bool) → ℕ → List ℕ → Bool
-siblings inner zero s = nothing s
+siblings inner zero s = noOctets s
 siblings inner (suc count) [] = true
 siblings inner (suc count) (x ∷ s) = wellFormed inner (siblings inner count) (firstElement (x ∷ s))
 
 -- whole elements that nest at most `depth` deep, these counted; each takes an octet or more, so there are at most as many as octets
 unfoldable pub wholeElements : ℕ → List ℕ → Bool
-wholeElements zero s = nothing s
+wholeElements zero s = noOctets s
 wholeElements (suc depth) s = siblings (wholeElements depth) (length s) s

@@ -20,7 +20,7 @@ use Rattle.rules.specs.Replies.{NamedFirst, errorOctets, octets}
 use Rattle.rules.specs.Step.{Outcome}
 use Rattle.rules.proofs.Errors.{unharmed, octets-error, untouched-step}
 use Rattle.rules.proofs.WholeHistory.{whole-history, any-order}
-use Rattle.ect.specs.CallHistory.{StepCall, CallHistory, lastBoard, numberOf, written, eventOf, events}
+use Rattle.ect.specs.CallHistory.{StepCall, CallHistory, lastBoard, numberReturned, written, eventOf, events}
 use Rattle.ect.specs.Contract.{OutcomeOf, answerCount}
 use Rattle.ect.specs.declared.Stepped.{Stepped}
 use Rattle.board.proofs.Promises.{fresh-promise}
@@ -69,7 +69,7 @@ module _ {b : Board} {c : StepCall} (h : StepContractMet b c) where
   outcome : OutcomeOf (stepped b played) (c .before) (c .returned) (c .after)
   outcome = h .met .1
 
-  number-is : numberOf c ≡ stepped b (eventOf c) .returned
+  number-is : numberReturned c ≡ stepped b (eventOf c) .returned
   number-is = outcome .answer ∙ any-order (played .order) NamedFirst b (c .event) (length (c .before)) .0
 
   board-is : c .returned .board ≡ stepped b (eventOf c) .board
@@ -78,7 +78,7 @@ module _ {b : Board} {c : StepCall} (h : StepContractMet b c) where
   error-leaves : T (errorOctets (written c)) → c .returned .board ≡ b
   error-leaves e = outcome .board ∙ unharmed b played (octets-error _ (ap errorOctets (sym (replies-are outcome)) ∙ is-true _ e))
 
-  refusal-leaves : eqb (numberOf c) 0 ≡ false → (c .returned .board ≡ b) × (c .after ≡ c .before)
+  refusal-leaves : eqb (numberReturned c) 0 ≡ false → (c .returned .board ≡ b) × (c .after ≡ c .before)
   unfolding octets
   refusal-leaves e =
       let o = untouched-step b played (ap (λ (n : ℕ). eqb n 0) (sym (outcome .answer)) ∙ e) in
@@ -89,7 +89,7 @@ unfolding Chain lastBoard boardAt
 last-board b [] h = refl
 last-board b (c ∷ cs) h = last-board (c .returned .board) cs (h .1) ∙ ap (λ (x : Board). boardAt x (events cs)) (board-is (h .0))
 
-returned-numbers : (b : Board) (calls : List StepCall) → Chain b calls → map numberOf calls ≡ returns b (events calls)
+returned-numbers : (b : Board) (calls : List StepCall) → Chain b calls → map numberReturned calls ≡ returns b (events calls)
 unfolding Chain returns
 returned-numbers b [] h = refl
 returned-numbers b (c ∷ cs) h =
@@ -120,7 +120,7 @@ calls-history s a made f calls h =
     board-at : lastBoard (made .board) calls ≡ boardAt (fresh s a .board) (events calls)
     board-at = last-board (made .board) calls h ∙ ap (λ (m : Made). boardAt (m .board) (events calls)) (fresh-promise s a made f)
 
-    numbers-are : map numberOf calls ≡ returns (fresh s a .board) (events calls)
+    numbers-are : map numberReturned calls ≡ returns (fresh s a .board) (events calls)
     numbers-are = returned-numbers (made .board) calls h ∙ ap (λ (m : Made). returns (m .board) (events calls)) (fresh-promise s a made f)
 
     at : (pre post : List StepCall) (c : StepCall) → calls ≡ pre ++ (c ∷ post) → StepContractMet (lastBoard (made .board) pre) c

@@ -32,8 +32,8 @@ lastBoard b [] = b
 lastBoard b (c ∷ cs) = lastBoard (c .returned .board) cs
 
 -- the number that was returned
-abbrev pub numberOf : StepCall → ℕ
-numberOf c = answerNumber (c .returned .answer)
+abbrev pub numberReturned : StepCall → ℕ
+numberReturned c = answerNumber (c .returned .answer)
 
 -- the octets written, as they lie in the buffer
 abbrev pub written : StepCall → List ℕ
@@ -51,9 +51,9 @@ events calls = map eventOf calls
 
 pub record CallHistory (b : Board) (k : Book) (calls : List StepCall) : Type 0 where
   -- "just those events are refused that the book of document 01 refuses": the numbers that the calls returned are the book's
-  pub refusals : map numberOf calls ≡ bookReturns k (events calls)
+  pub refusals : map numberReturned calls ≡ bookReturns k (events calls)
   -- "and the history is the list without them": the events whose calls returned 0
-  pub history-is : accepted (map numberOf calls) (events calls) ≡ history k (events calls)
+  pub history-is : accepted (map numberReturned calls) (events calls) ≡ history k (events calls)
   -- the history alone is refused nowhere, and leads to the same book
   pub history-accepted : all (λ (n : ℕ). eqb n 0) (bookReturns k (history k (events calls))) ≡ true
   pub history-book : bookAt k (history k (events calls)) ≡ bookAt k (events calls)
@@ -72,6 +72,6 @@ pub record CallHistory (b : Board) (k : Book) (calls : List StepCall) : Type 0 w
       T (errorOctets (written c)) → c .returned .board ≡ lastBoard b pre
   -- a refusal left the board, and the buffer, as it found them
   pub untouched : (pre post : List StepCall) (c : StepCall) → calls ≡ pre ++ (c ∷ post) →
-      T (not (eqb (numberOf c) 0)) → (c .returned .board ≡ lastBoard b pre) × (c .after ≡ c .before)
+      T (not (eqb (numberReturned c) 0)) → (c .returned .board ≡ lastBoard b pre) × (c .after ≡ c .before)
   -- the board is sound, so 2 is returned nowhere
   pub sound-board : T (sound (lastBoard b calls))

@@ -48,8 +48,8 @@ use Rattle.board.specs.declared.Change.the-variants as change
 use Rattle.events.specs.declared.Refusal.the-variants as refusal
 use Rattle.effects.specs.declared.Acceptance.the-variants.{Accepted, Refused}
 use Rattle.effects.specs.declared.Effect.{Effect}
-use Rattle.effects.specs.declared.BoardChange.{BoardChange}
-use Rattle.effects.specs.declared.BoardChange.the-variants.{None, Enter, Apply}
+use Rattle.effects.specs.declared.ChangeKind.{ChangeKind}
+use Rattle.effects.specs.declared.ChangeKind.the-variants.{None, Enter, Apply}
 use Rattle.replies.specs.declared.Out.{Out}
 use Rattle.rules.specs.declared.TellNumber.{TellNumber}
 use Rattle.replies.specs.declared.FarParty.{FarParty}
@@ -109,14 +109,14 @@ module _ {e : Effect} {b : Board} {d : Decision} (k : EffectOf e b d) where
 
 -- ---- the board that is made
 
-module _ {d : BoardChange} {r : Board} (row : Row) (b : Board) where
+module _ {d : ChangeKind} {r : Board} (row : Row) (b : Board) where
   pub entered-board : d ≡ Enter → r ≡ withRows (enter row (b .rows)) b → r ≡ boardBy d row b
-  entered-board h e = e ∙ sym (ap (λ (x : BoardChange). boardBy x row b) h)
+  entered-board h e = e ∙ sym (ap (λ (x : ChangeKind). boardBy x row b) h)
 
   pub changed-board : {c : Change} {z : LinkId} → d ≡ Apply c → r ≡ withRows (changedRows c (b .rows)) b → z ≡ candidateBy (assignedBy c) (b .candidate) →
       record { rows = r .rows; options = r .options; candidate = z } ≡ boardBy d row b
   changed-board h e q =
-      ap₂ (λ (x : Board) (y : LinkId). record { rows = x .rows; options = x .options; candidate = y }) e q ∙ sym (ap (λ (x : BoardChange). boardBy x row b) h)
+      ap₂ (λ (x : Board) (y : LinkId). record { rows = x .rows; options = x .options; candidate = y }) e q ∙ sym (ap (λ (x : ChangeKind). boardBy x row b) h)
 
 -- ---- by the checks
 

@@ -1,5 +1,5 @@
 // Progress and Hold: the call state, or the auxiliary state, of a call.
-use crate::BoardChange;
+use crate::ChangeKind;
 use crate::Effect;
 use crate::accept;
 use crate::refuse;
@@ -56,7 +56,7 @@ pub fn progress(found: FoundParty, reference: CallReference, state: CallState) -
     let from = call.state;
     if may_progress(from, state) {
         return accept(
-            BoardChange::Apply(Change::SetState(reference, state)),
+            ChangeKind::Apply(Change::SetState(reference, state)),
             nothing(),
         );
     }
@@ -105,7 +105,7 @@ pub fn hold(found: FoundParty, reference: CallReference, auxiliary: AuxiliarySta
     let from = call.auxiliary;
     if is_holdable(state) & may_hold(from, auxiliary) {
         return accept(
-            BoardChange::Apply(Change::SetAuxiliary(reference, auxiliary)),
+            ChangeKind::Apply(Change::SetAuxiliary(reference, auxiliary)),
             nothing(),
         );
     }

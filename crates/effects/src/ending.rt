@@ -1,5 +1,5 @@
 // Release and Answer: a leg ends, or stops alerting.
-use crate::BoardChange;
+use crate::ChangeKind;
 use crate::Effect;
 use crate::accept;
 use crate::number_at;
@@ -26,7 +26,7 @@ pub fn release(found: FoundEntry) -> Effect
         Connection::WithUser(call) => {
             let reference = call.reference;
             accept(
-                BoardChange::Apply(Change::Release(entry.leg)),
+                ChangeKind::Apply(Change::Release(entry.leg)),
                 drop_notice(reference),
             )
         }
@@ -34,7 +34,7 @@ pub fn release(found: FoundEntry) -> Effect
             partner,
             alerting: _,
         } => accept(
-            BoardChange::Apply(Change::ReleasePair(entry.leg, partner)),
+            ChangeKind::Apply(Change::ReleasePair(entry.leg, partner)),
             gone(partner),
         ),
     }
@@ -53,7 +53,7 @@ pub fn answer(board: Board, found: FoundEntry, leg: u32) -> Effect
     if alerting {
         let number = number_at(board, leg);
         return accept(
-            BoardChange::Apply(Change::EndAlerting(leg)),
+            ChangeKind::Apply(Change::EndAlerting(leg)),
             answer_told(partner, number),
         );
     }

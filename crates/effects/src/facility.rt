@@ -1,5 +1,5 @@
 // Facility: what its component comes to.
-use crate::BoardChange;
+use crate::ChangeKind;
 use crate::Effect;
 use crate::accept;
 use crate::number_at;
@@ -53,7 +53,7 @@ fn transfer(
     let a = far_party(board, first);
     let b = far_party(board, second);
     accept(
-        BoardChange::Apply(Change::Join(first.leg, second.leg)),
+        ChangeKind::Apply(Change::Join(first.leg, second.leg)),
         replies::transfer(reference, identifier, a, b),
     )
 }
@@ -65,10 +65,10 @@ fn carry_out(board: Board, party: Party, service: Service) -> Effect
     let call = party.call;
     let reference = call.reference;
     match service {
-        Service::Silent => accept(BoardChange::None, nothing()),
-        Service::Respond(a) => accept(BoardChange::None, reply(reference, a)),
+        Service::Silent => accept(ChangeKind::None, nothing()),
+        Service::Respond(a) => accept(ChangeKind::None, reply(reference, a)),
         Service::AssignLinkId(id, identifier) => accept(
-            BoardChange::Apply(Change::SetLinkId(reference, id)),
+            ChangeKind::Apply(Change::SetLinkId(reference, id)),
             reply(reference, Answer::LinkIdResult(identifier, id)),
         ),
         Service::Transfer {

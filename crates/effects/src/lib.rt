@@ -43,7 +43,7 @@ pub enum Acceptance {
 }
 
 // What changes on the board: nothing, a row is entered, or rows that are taken change.
-pub enum BoardChange {
+pub enum ChangeKind {
     None,
     Enter,
     Apply(Change),
@@ -53,13 +53,13 @@ pub enum BoardChange {
 // beside the change, as an enum holds no array, and is empty where none is entered.
 pub struct Effect {
     pub acceptance: Acceptance,
-    pub change: BoardChange,
+    pub change: ChangeKind,
     pub row: Row,
     pub out: Out,
 }
 
 // An accepted event that enters no row.
-fn accept(change: BoardChange, out: Out) -> Effect
+fn accept(change: ChangeKind, out: Out) -> Effect
     ensures { λ r. ⌜ r ≡ effect Acceptance.Accepted change emptyRow out ⌝ }
 {
     Effect {
@@ -75,7 +75,7 @@ fn refuse(refusal: Refusal) -> Effect
 {
     Effect {
         acceptance: Acceptance::Refused(refusal),
-        change: BoardChange::None,
+        change: ChangeKind::None,
         row: empty_row(),
         out: nothing(),
     }
@@ -143,9 +143,9 @@ pub fn done(board: Board, effect: Effect) -> Board
 {
     let board_change = effect.change;
     match board_change {
-        BoardChange::None => board,
-        BoardChange::Enter => open_row(board, effect.row),
-        BoardChange::Apply(c) => {
+        ChangeKind::None => board,
+        ChangeKind::Enter => open_row(board, effect.row),
+        ChangeKind::Apply(c) => {
             let candidate = candidate_after(board.candidate, c);
             let mut after = change(board, c);
             after.candidate = candidate;

@@ -1,6 +1,6 @@
 // Open: a far party with its call is entered.
 use crate::Acceptance;
-use crate::BoardChange;
+use crate::ChangeKind;
 use crate::Effect;
 use crate::refuse;
 use board::AuxiliaryState;
@@ -76,7 +76,7 @@ pub fn open(board: Board, r: CallReference, l: u32, d: Direction, number: PartyN
     }
     Effect {
         acceptance: Acceptance::Accepted,
-        change: BoardChange::Enter,
+        change: ChangeKind::Enter,
         row: opened_row(r, l, d, number),
         out: nothing(),
     }

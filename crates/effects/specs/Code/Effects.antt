@@ -24,8 +24,8 @@ use Rattle.rules.specs.Checks.{Decision, Refuse, Accept, changeOf, assignedBy, 
 use Rattle.rules.specs.Step.{enteredRow, replies, candidateBy}
 use Rattle.effects.specs.declared.Acceptance.{Acceptance}
 use Rattle.effects.specs.declared.Acceptance.the-variants.{Accepted, Refused}
-use Rattle.effects.specs.declared.BoardChange.{BoardChange}
-use Rattle.effects.specs.declared.BoardChange.the-variants.{None, Enter, Apply}
+use Rattle.effects.specs.declared.ChangeKind.{ChangeKind}
+use Rattle.effects.specs.declared.ChangeKind.the-variants.{None, Enter, Apply}
 use Rattle.effects.specs.declared.Effect.{Effect}
 use Rattle.replies.specs.declared.Out.{Out}
 use Rattle.replies.specs.declared.FarParty.{FarParty}
@@ -36,7 +36,7 @@ use Rattle.serving.specs.Code.Parties.{entriesOf}
 abbrev pub openedRow : ℕ → ℕ → Direction → PartyNumber → Row
 openedRow r l d n = enteredRow (record { leg = l; call = opened r d }) n
 
-abbrev pub effect : Acceptance → BoardChange → Row → Out → Effect
+abbrev pub effect : Acceptance → ChangeKind → Row → Out → Effect
 effect a c row o = record { acceptance = a; change = c; row = row; out = o }
 
 abbrev pub acceptanceOf : Decision → Acceptance
@@ -44,7 +44,7 @@ acceptanceOf (Refuse c) = Refused c
 acceptanceOf (Accept c w) = Accepted
 
 -- a decision's change as the code says it, and the row that it enters; an empty one where it enters none
-abbrev pub changeIn : Option checks.BoardChange → BoardChange
+abbrev pub changeIn : Option checks.BoardChange → ChangeKind
 changeIn none = None
 changeIn (some (checks.Enter p n)) = Enter
 changeIn (some (checks.Apply c)) = Apply c
@@ -55,7 +55,7 @@ rowIn (some (checks.Enter p n)) = enteredRow p n
 rowIn (some (checks.Apply c)) = emptyRow
 
 -- the board that a change makes of b, with the row that it enters
-abbrev pub boardBy : BoardChange → Row → Board → Board
+abbrev pub boardBy : ChangeKind → Row → Board → Board
 boardBy None row b = b
 boardBy Enter row b = withRows (enter row (b .rows)) b
 boardBy (Apply c) row b = record { rows = changedRows c (b .rows); options = b .options; candidate = candidateBy (assignedBy c) (b .candidate) }
