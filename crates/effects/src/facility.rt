@@ -58,7 +58,7 @@ fn transfer(
     )
 }
 
-// EffectOf out what the component of the party's Facility comes to.
+// Carries out what the component of the party's Facility comes to.
 fn carry_out(board: Board, party: Party, service: Service) -> Effect
     ensures { λ r. ⌜ EffectOf r board (serviceDecision (board .options) party service) ⌝ }
 {
