@@ -9,7 +9,7 @@ use lib.ListN.{length, take, drop}
 use lib.Seq.{take-at}
 use base.Fml.{GName}
 use contract.Lifetimes.{Lfts}
-use denote.Ref.{RefT}
+use Rattle.octets.proofs.Lent.{lent}
 use Rattle.octets.proofs.Lists.{is-true, is-not}
 use Rattle.board.specs.declared.Board.{Board}
 use Rattle.board.specs.declared.Made.{Made}
@@ -28,10 +28,6 @@ use Rattle.board.proofs.fresh.Reads as fresh-contract
 use Rattle.ect.proofs.step.Reads as step-contract
 
 -- ---- the premise
-
--- a reference to octets, wherever they lie
-abbrev pub lent : (ℕ × ℕ) × GName → List ℕ → RefT (List ℕ)
-lent at os = record { ptr = at .0; name = at .1; now = os }
 
 -- the call of `step` on the board b met its contract
 pub record StepContractMet (b : Board) (c : StepCall) : Type 0 where

@@ -1,17 +1,18 @@
 -- Numbers and octets as text, and texts written one after the other into a buffer. Assumes nothing.
 use Prim.Native.Nat.{ℕ, zero, suc, _+_, _*_, _/_, _%_, _≤_, _<_}
-use native.Mathlib.Nat.{add-assoc, add-zero, zero-add}
+use native.Mathlib.Nat.{zero-add}
 use native.Mathlib.Omega.{arith}
 use native.Mathlib.Numerals.{add-one}
-use mathlib.Core.Path.{_≡_, refl, sym, ap, _∙_}
-use mathlib.Core.List.{List, [], _∷_, _++_, append-assoc}
+use mathlib.Core.Path.{_≡_, refl, ap, _∙_}
+use mathlib.Core.List.{List, [], _∷_, _++_}
 use native.Mathlib.Decide.{decLt}
-use lib.ListN.{length, getD, take, drop, set, length-append, length-take, length-set, take-append-drop}
-use lib.Seq.{take-suc, set-split, take-at, drop-at, drop-drop}
+use lib.ListN.{length, getD, take, length-append, length-take}
+use lib.Seq.{take-suc}
 use borrow.Author.Tests.{lt-ltb, le-ltb, le-leb, lt-leb}
 use Rattle.log_text.specs.Lines.{digit, decimalIn, decimal, hexOctet, hexOctets, octetsText, space, spaced, recordLine, endLine}
-use Rattle.octets.specs.Buffers.{writtenAt}
-use Rattle.log_text.specs.Writing.{Fitted, Put}
+use Rattle.log_text.specs.Writing.{Fitted}
+use Rattle.octets.specs.Code.Putting.{Put}
+use Rattle.octets.proofs.Putting.{join}
 
 -- ---- numbers
 
@@ -73,44 +74,6 @@ decimal-short (suc k) n h = go (decLt n 10) (decimal-short k (n / 10))
         omega (arith, length-more n m, more p)
 
 -- ---- texts written one after the other
-
--- what lies beyond, by its place
-written-beyond : (at : ℕ) (x b : List ℕ) → writtenAt at x b ≡ take at b ++ (x ++ drop (at + length x) b)
-written-beyond at x b = ap (λ (l : List ℕ). take at b ++ (x ++ l)) (drop-drop (length x) at b)
-
-pub put-one : (b : List ℕ) (o at : ℕ) → at + 1 ≤ length b → Put (o ∷ []) b (set b at o) at (at + 1)
-put-one b o at h =
-    let e : at < length b = omega arith in
-    record { is = rw (add-one at) (set-split b at o e) ∙ sym (written-beyond at (o ∷ []) b); place = refl; long = length-set b at o }
-
-pub put-nothing : (b : List ℕ) (at : ℕ) → Put [] b b at at
-put-nothing b at = record { is = sym (take-append-drop at b); place = sym (add-zero at); long = refl }
-
-module _ (x y a b c : List ℕ) (at m : ℕ) where
-  both-written : at + length x ≤ length a → b ≡ take at a ++ (x ++ drop (at + length x) a) → m ≡ at + length x → c ≡ writtenAt m y b → c ≡ writtenAt at (x ++ y) a
-  both-written h p l q =
-      let e : length (take at a ++ x) ≡ at + length x = simp (length-append, length-take) (omega arith) in
-      q
-      ∙ rw (
-        p,
-        l,
-        ← append-assoc (take at a) x (drop (at + length x) a),
-        take-at (take at a ++ x) (drop (at + length x) a) (at + length x) e,
-        drop-at (take at a ++ x) (drop (at + length x) a) (at + length x) e,
-        drop-drop (length y) (at + length x) a,
-        written-beyond at (x ++ y) a,
-        length-append x y,
-        add-assoc,
-      )
-      (simp append-assoc)
-
-module _ {x y a b c : List ℕ} {at m n : ℕ} where
-  pub join : at + length x ≤ length a → Put x a b at m → Put y b c m n → Put (x ++ y) a c at n
-  join h p q = record {
-    is = both-written x y a b c at m h (p .is ∙ written-beyond at x a) (p .place) (q .is);
-    place = omega (arith, p .place, q .place, length-append x y);
-    long = q .long ∙ p .long;
-  }
 
 -- one octet more of a text
 pub join-next : {a b c : List ℕ} {at m n : ℕ} (s : List ℕ) (i : ℕ) → i < length s → at + length s ≤ length a

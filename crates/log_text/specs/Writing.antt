@@ -1,11 +1,11 @@
 -- What a call that writes a text into a buffer leaves there.
-use Prim.Native.Nat.{ℕ, _+_, _≤_}
+use Prim.Native.Nat.{ℕ, _≤_}
 use mathlib.Core.Path.{_≡_}
 use mathlib.Core.Bool.{cond}
 use mathlib.Core.List.{List}
 use lib.Dec.{leb}
 use lib.ListN.{length}
-use Rattle.octets.specs.Buffers.{frontWritten, writtenAt}
+use Rattle.octets.specs.Buffers.{frontWritten}
 
 -- a buffer with a text at its front; all as it was where the text does not fit
 abbrev pub fitted : List ℕ → List ℕ → List ℕ
@@ -21,9 +21,3 @@ pub record Fitted (text before after : List ℕ) (returned : ℕ) : Type 0 where
   pub is : after ≡ fitted text before
   pub count : returned ≡ fittedCount text before
   pub within : returned ≤ length before
-
--- the text was put at a place, and next is the place after it
-pub record Put (text before after : List ℕ) (at next : ℕ) : Type 0 where
-  pub is : after ≡ writtenAt at text before
-  pub place : next ≡ at + length text
-  pub long : length after ≡ length before

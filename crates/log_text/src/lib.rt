@@ -8,7 +8,8 @@ ghost use lib.Dec.{leb};
 ghost use lib.ListN.{length};
 ghost use Rattle.log_text.specs.Lines.{decimal, hexDigit, hexOctet, octetsText, spaced};
 ghost use Rattle.log_text.specs.Lines.{recordLine, endLine, firstLine, badOptionsLine};
-ghost use Rattle.log_text.specs.Writing.{Fitted, Put};
+ghost use Rattle.octets.specs.Code.Putting.{Put};
+ghost use Rattle.log_text.specs.Writing.{Fitted};
 
 const SPACE: u8 = 32;
 

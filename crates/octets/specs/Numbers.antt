@@ -1,5 +1,5 @@
 -- Numbers as octets, and LinkIds (document 01, "The board", "Event records", "Reading a component", "Serving it").
-use Prim.Native.Nat.{ℕ, suc, _+_, _-_, _*_, _/_, _%_}
+use Prim.Native.Nat.{ℕ, suc, _+_, _-_, _*_, _/_, _%_, _≤_}
 use mathlib.Core.Bool.{Bool, false, cond}
 use mathlib.Core.List.{List, [], _∷_, _++_}
 use lib.Dec.{eqb, ltb}
@@ -47,6 +47,11 @@ sameInteger (negsuc m) (negsuc n) = eqb m n
 abbrev pub fewest : ℤ → IntegerOctets
 fewest (pos n) = cond (ltb n 128) (One n) (Two (n / 256) (n % 256))
 fewest (negsuc n) = cond (ltb n 128) (One (255 - n)) (Two ((65535 - n) / 256) ((65535 - n) % 256))
+
+-- "a LinkId runs from -32768 to 32767", and so does an invoke identifier, as their type i16 has it (`negsuc n` is -(n + 1))
+abbrev pub InInt16Range : ℤ → Type 0
+InInt16Range (pos n) = n ≤ 32767
+InInt16Range (negsuc n) = n ≤ 32767
 
 -- "the value after": one more, "32767 followed by -32768"
 abbrev pub nextLinkId : ℤ → ℤ

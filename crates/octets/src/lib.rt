@@ -1,4 +1,4 @@
-// Numbers as octets: call references, LinkIds, and the integers of a component.
+// Numbers as octets: call references, LinkIds, invoke identifiers, and the integers of a component.
 ghost use mathlib.Core.Path.{_≡_};
 ghost use Rattle.octets.specs.Numbers.{signed, bits, integerOf, fewest, nextLinkId, sameInteger};
 
@@ -7,6 +7,9 @@ pub struct CallReference(pub u16);
 
 // A LinkId: from -32768 to 32767, and negative ones are ordinary.
 pub struct LinkId(pub i16);
+
+// An invoke identifier, by which an answer names its invoke: from -32768 to 32767.
+pub struct InvokeIdentifier(pub i16);
 
 // An integer of a component: from -32768 to 32767, two's complement in one or two octets.
 pub struct Integer(pub i16);
@@ -41,6 +44,22 @@ impl LinkId {
         } else {
             LinkId(z + 1)
         }
+    }
+}
+
+impl InvokeIdentifier {
+    // The invoke identifier that an integer says.
+    pub fn from_integer(integer: Integer) -> InvokeIdentifier
+        ensures { λ r. ⌜ r ≡ record { 0 = integer .0 } ⌝ }
+    {
+        InvokeIdentifier(integer.0)
+    }
+
+    pub fn to_integer(self) -> Integer
+        ensures { λ r. ⌜ r ≡ record { 0 = self .0 } ⌝ }
+    {
+        let number = self.0;
+        Integer(number)
     }
 }
 

@@ -20,7 +20,7 @@ use Rattle.playing.specs.declared.Pause.the-variants.{MoreInput, FullOut
 use Rattle.playing.specs.declared.Played.{Played}
 use Rattle.playing.specs.Log.{orderNow, ordersLater, judged, stopsReading, largestNumber, LogEnd, ended, withText, recordsEnd, logEnd}
 use Rattle.playing.specs.Playing.{frontLength, pieceRecord, pieceLine, longestLine, pauseAtEnd, Playing, pausing, withRecord, playFrom, playing}
-use Rattle.ect.proofs.CallHistory.{lent}
+use Rattle.octets.proofs.Lent.{lent}
 use Rattle.playing.proofs.PlayingLaws.{some-taken}
 use Rattle.playing.proofs.play.Reads as play-contract
 

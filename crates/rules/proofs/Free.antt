@@ -15,12 +15,12 @@ use Rattle.board.specs.Entries.{taken, linkIds, calls}
 use Rattle.board.specs.LinkIds.{freeLinkId, unlessLive, live, mostLinkIds}
 use Rattle.board.specs.declared.Board.{Board}
 use Rattle.rules.proofs.Kept.{live-length, first-not-live}
-use Rattle.rules.specs.LinkIdGiven.{InLinkIdRange, LinkIdGiven}
+use Rattle.rules.specs.LinkIdGiven.{LinkIdGiven}
 use Rattle.rules.specs.Serving.{error, assign}
 use Rattle.octets.proofs.Lists.{true-not-false, eqb-of, eqb-eq, test, neither, both, any-has, any-of, mem-filter, or-false, left, right, is-not}
 use Rattle.octets.proofs.SameInteger.{sameInteger-eq}
 use Rattle.octets.specs.Lists.{all, any, distinct, filter, consIf}
-use Rattle.octets.specs.Numbers.{nextLinkId, sameInteger}
+use Rattle.octets.specs.Numbers.{InInt16Range, nextLinkId, sameInteger}
 
 -- ---- places of the LinkIds from 0 to 65535
 
@@ -28,23 +28,23 @@ abbrev rank : ℤ → ℕ
 rank (pos n) = n + 32768
 rank (negsuc n) = 32767 - n
 
-rank-in-range : (z : ℤ) → InLinkIdRange z → rank z ≤ 65535
+rank-in-range : (z : ℤ) → InInt16Range z → rank z ≤ 65535
 rank-in-range (pos n) h = omega arith
 rank-in-range (negsuc n) h = omega arith
 
 below : (n : ℕ) → n ≤ 32767 → eqb n 32767 ≡ false → suc n ≤ 32767
 below n h e = let k : n ≡ 32767 → ⊥ = λ q. true-not-false (eqb-of n 32767 q) e in omega arith
 
-next-in-range : (z : ℤ) → InLinkIdRange z → InLinkIdRange (nextLinkId z)
+next-in-range : (z : ℤ) → InInt16Range z → InInt16Range (nextLinkId z)
 next-in-range (pos n) h = go (eqb n 32767) refl
   where
-    go : (b : Bool) → eqb n 32767 ≡ b → InLinkIdRange (cond b (negsuc 32767) (pos (suc n)))
+    go : (b : Bool) → eqb n 32767 ≡ b → InInt16Range (cond b (negsuc 32767) (pos (suc n)))
     go true e = le-refl 32767
     go false e = below n h e
 next-in-range (negsuc zero) h = zero-le
 next-in-range (negsuc (suc n)) h = omega arith
 
-next-rank : (z : ℤ) → InLinkIdRange z → (rank (nextLinkId z) ≡ rank z + 1) ⊎ ((rank (nextLinkId z) ≡ 0) × (rank z ≡ 65535))
+next-rank : (z : ℤ) → InInt16Range z → (rank (nextLinkId z) ≡ rank z + 1) ⊎ ((rank (nextLinkId z) ≡ 0) × (rank z ≡ 65535))
 next-rank (pos n) h = go (eqb n 32767) refl
   where
     go : (b : Bool) → eqb n 32767 ≡ b → (rank (cond b (negsuc 32767) (pos (suc n))) ≡ n + 32768 + 1) ⊎ ((rank (cond b (negsuc 32767) (pos (suc n))) ≡ 0) × (n + 32768 ≡ 65535))
@@ -57,7 +57,7 @@ next-rank (negsuc (suc n)) h = inl (omega arith)
 abbrev Later : ℕ → ℤ → ℤ → Type 0
 Later i z y = (rank y ≡ rank z + i) ⊎ (rank y + 65536 ≡ rank z + i)
 
-later-next : (i : ℕ) (z y : ℤ) → i ≤ 15 → InLinkIdRange z → InLinkIdRange y → Later i z y → Later (i + 1) z (nextLinkId y)
+later-next : (i : ℕ) (z y : ℤ) → i ≤ 15 → InInt16Range z → InInt16Range y → Later i z y → Later (i + 1) z (nextLinkId y)
 later-next i z y k hz hy l = go l (next-rank y hy)
   where
     top : rank z ≤ 65535
@@ -91,14 +91,14 @@ unfolding run
 run-length zero z = refl
 run-length (suc n) z = ap suc (run-length n (nextLinkId z))
 
-run-apart : (m i : ℕ) (z y : ℤ) → 1 ≤ i → i + m ≤ mostLinkIds → InLinkIdRange z → InLinkIdRange y → Later i z y → any (sameInteger z) (run m y) ≡ false
+run-apart : (m i : ℕ) (z y : ℤ) → 1 ≤ i → i + m ≤ mostLinkIds → InInt16Range z → InInt16Range y → Later i z y → any (sameInteger z) (run m y) ≡ false
 unfolding run
 run-apart zero i z y h k hz hy l = refl
 run-apart (suc m) i z y h k hz hy l =
     neither (apart i z y h (omega arith) l)
     (run-apart m (i + 1) z (nextLinkId y) (omega arith) (omega arith) hz (next-in-range y hy) (later-next i z y (omega arith) hz hy l))
 
-run-distinct : (n : ℕ) (z : ℤ) → n ≤ mostLinkIds → InLinkIdRange z → distinct sameInteger (run n z) ≡ true
+run-distinct : (n : ℕ) (z : ℤ) → n ≤ mostLinkIds → InInt16Range z → distinct sameInteger (run n z) ≡ true
 unfolding run
 run-distinct zero z k h = refl
 run-distinct (suc n) z k h = both (ap not (run-apart n 1 z (nextLinkId z) (le-refl 1) (omega arith) h (next-in-range z h) after)) (run-distinct n (nextLinkId z) (omega arith) (next-in-range z h))
@@ -156,7 +156,7 @@ no-more (y ∷ ys) used h k =
     (fewer (sameInteger y) used (left (any (sameInteger y) used) _ k))
 
 -- with fewer than n live, n values hold one that is not
-found : (n : ℕ) (z : ℤ) (used : List ℤ) → n ≤ mostLinkIds → InLinkIdRange z → length used < n → (y : ℤ) × (freeLinkId n z used ≡ some y)
+found : (n : ℕ) (z : ℤ) (used : List ℤ) → n ≤ mostLinkIds → InInt16Range z → length used < n → (y : ℤ) × (freeLinkId n z used ≡ some y)
 found n z used top h k = go (freeLinkId n z used) refl
   where
     go : (o : Option ℤ) → freeLinkId n z used ≡ o → (y : ℤ) × (freeLinkId n z used ≡ some y)
@@ -166,7 +166,7 @@ found n z used top h k = go (freeLinkId n z used) refl
         absurd (omega arith)
     go (some y) e = (y, e)
 
-module _ (z : ℤ) (used : List ℤ) (h : InLinkIdRange z) (few : length used < mostLinkIds) where
+module _ (z : ℤ) (used : List ℤ) (h : InInt16Range z) (few : length used < mostLinkIds) where
   one-free : (y : ℤ) × (freeLinkId mostLinkIds z used ≡ some y)
   one-free = found mostLinkIds z used (le-refl mostLinkIds) h few
 
@@ -178,5 +178,5 @@ module _ (z : ℤ) (used : List ℤ) (h : InLinkIdRange z) (few : length used < 
   }
 
 -- on every board, sound or not, while fewer than 16 LinkIds are live a call that has none is given the first value that is not live
-pub link-id-given : (b : Board) → InLinkIdRange (b .candidate .0) → linkIds (taken (b .rows)) < mostLinkIds → LinkIdGiven (b .candidate .0) (live (calls (taken (b .rows))))
+pub link-id-given : (b : Board) → InInt16Range (b .candidate .0) → linkIds (taken (b .rows)) < mostLinkIds → LinkIdGiven (b .candidate .0) (live (calls (taken (b .rows))))
 link-id-given b h few = gives (b .candidate .0) (live (calls (taken (b .rows)))) h (subst⁻¹ (λ (n : ℕ). n < mostLinkIds) (live-length (taken (b .rows))) few)

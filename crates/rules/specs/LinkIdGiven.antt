@@ -1,19 +1,14 @@
 -- What an EctLinkIdRequest comes to while fewer than 16 LinkIds are live (document 01, "Serving it").
-use Prim.Native.Nat.{ℕ, zero, suc, _≤_, _<_}
+use Prim.Native.Nat.{ℕ, zero, suc, _<_}
 use mathlib.Core.Path.{_≡_}
 use mathlib.Core.Bool.{true, false}
 use mathlib.Core.List.{List}
 use mathlib.Core.Option.{none}
-use lib.IntN.{ℤ, pos, negsuc}
+use lib.IntN.{ℤ}
 use Rattle.octets.specs.declared.IntegerOctets.{IntegerOctets}
 use Rattle.octets.specs.Lists.{any}
 use Rattle.octets.specs.Numbers.{sameInteger, nextLinkId}
 use Rattle.rules.specs.Serving.{AssignLinkId, linkIdRequest}
-
--- "a LinkId runs from -32768 to 32767", as its type i16 has it (`negsuc n` is -(n + 1))
-abbrev pub InLinkIdRange : ℤ → Type 0
-InLinkIdRange (pos n) = n ≤ 32767
-InLinkIdRange (negsuc n) = n ≤ 32767
 
 -- n values upward from z, "32767 followed by -32768"
 abbrev pub upward : ℕ → ℤ → ℤ

@@ -7,7 +7,8 @@ use borrow.Author.Needs.{needs}
 use borrow.Fn.Kinds.{In, Out}
 use borrow.Fn.PlainCycle.{Measures, is, falls, and}
 use Rattle.log_text.specs.Lines.{decimal}
-use Rattle.log_text.proofs.TextLaws.{join, decimal-small, decimal-more, length-small, length-more}
+use Rattle.octets.proofs.Putting.{join}
+use Rattle.log_text.proofs.TextLaws.{decimal-small, decimal-more, length-small, length-more}
 use Rattle.log_text.proofs.put_decimal.Reads as put-decimal
 use Rattle.log_text.proofs.put_decimal.Kinds as put-decimal-kinds
 use Rattle.log_text.proofs.+put_decimal.Lts-put_decimal as put-decimal-lts

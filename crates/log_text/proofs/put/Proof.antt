@@ -1,6 +1,6 @@
 -- `log_text::put` meets its contract. Assumes nothing.
 use borrow.Author.Needs.{needs}
-use Rattle.log_text.proofs.TextLaws.{put-one}
+use Rattle.octets.proofs.Putting.{put-one}
 use Rattle.log_text.proofs.put.Statement.{statement}
 use Rattle.log_text.proofs.put.Tie as tie
 

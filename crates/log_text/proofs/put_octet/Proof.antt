@@ -1,7 +1,7 @@
 -- `log_text::put_octet` meets its contract. Assumes nothing.
 use native.Mathlib.Omega.{arith}
 use borrow.Author.Needs.{needs}
-use Rattle.log_text.proofs.TextLaws.{join}
+use Rattle.octets.proofs.Putting.{join}
 use Rattle.log_text.proofs.put_octet.Statement.{statement}
 use Rattle.log_text.proofs.put_octet.Tie as tie
 

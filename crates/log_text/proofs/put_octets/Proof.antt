@@ -6,8 +6,9 @@ use lib.ListN.{length, take, length-take}
 use lib.Seq.{take-all}
 use borrow.Author.Needs.{needs}
 use Rattle.log_text.specs.Lines.{hexOctets}
-use Rattle.log_text.specs.Writing.{Put}
-use Rattle.log_text.proofs.TextLaws.{join, put-nothing, hex-length, hex-next, text-none, text-some}
+use Rattle.octets.specs.Code.Putting.{Put}
+use Rattle.octets.proofs.Putting.{join, put-nothing}
+use Rattle.log_text.proofs.TextLaws.{hex-length, hex-next, text-none, text-some}
 use Rattle.log_text.proofs.put_octets.Statement.{statement}
 use Rattle.log_text.proofs.put_octets.Tie as tie
 

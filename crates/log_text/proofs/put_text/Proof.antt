@@ -4,8 +4,9 @@ use native.Mathlib.Omega.{arith}
 use lib.ListN.{length, take, length-take}
 use lib.Seq.{take-all}
 use borrow.Author.Needs.{needs}
-use Rattle.log_text.specs.Writing.{Put}
-use Rattle.log_text.proofs.TextLaws.{join-next, put-nothing}
+use Rattle.octets.specs.Code.Putting.{Put}
+use Rattle.log_text.proofs.TextLaws.{join-next}
+use Rattle.octets.proofs.Putting.{put-nothing}
 use Rattle.log_text.proofs.put_text.Statement.{statement}
 use Rattle.log_text.proofs.put_text.Tie as tie
 
