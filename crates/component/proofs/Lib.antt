@@ -1,5 +1,6 @@
 -- Laws of components, for the proofs of this crate and of those above it.
 pub mod ElementLaws
+pub mod Promises
 pub mod ReadingLaws
 pub mod WriterLaws
 pub mod Length
