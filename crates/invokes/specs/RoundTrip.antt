@@ -1,0 +1,61 @@
+-- What is claimed of writing an invoke and reading it, and of reading one and writing it (document 02, slip 1).
+use Prim.Native.Nat.{ℕ, zero, suc}
+use mathlib.Core.Path.{_≡_}
+use mathlib.Core.List.{List, []}
+use mathlib.Core.Option.{Option, none, some}
+use lib.ListN.{drop}
+use Rattle.octets.specs.declared.IntegerOctets.{IntegerOctets}
+use Rattle.octets.specs.declared.InvokeIdentifier.{InvokeIdentifier}
+use Rattle.octets.specs.Numbers.{integerOf, fewest, InInt16Range}
+use Rattle.component.specs.declared.Operation.{Operation}
+use Rattle.component.specs.declared.Operation.the-variants.{EctExecute, ExplicitEctExecute, EctLinkIdRequest}
+use Rattle.component.specs.declared.Reading.{Reading}
+use Rattle.component.specs.declared.Reading.the-variants.{Invoked}
+use Rattle.component.specs.Elements.{firstElement}
+use Rattle.component.specs.Reading.{integerIn, restOf}
+
+-- ---- written, then read
+
+-- the LinkId of an operation, if it has one, is in the range of its type
+abbrev pub OperationInRange : Operation → Type 0
+OperationInRange EctExecute = Unit {0}
+OperationInRange (ExplicitEctExecute l) = InInt16Range (l .0)
+OperationInRange EctLinkIdRequest = Unit {0}
+
+-- "yields the same operation and numbers": the LinkId as part of the operation, the identifier by its octets as received
+pub record ReadAs (op : Operation) (i : InvokeIdentifier) (r : Reading) : Type 0 where
+  pub received : IntegerOctets
+  pub invoked : r ≡ Invoked received op
+  pub identifier : integerOf received ≡ i .0
+
+-- ---- read, then written
+
+-- the contents of an invoke: what follows its tag and its length
+abbrev pub contents : List ℕ → List ℕ
+contents s = drop 2 s
+
+-- how many elements are looked at: identifier, operation, and the LinkId where there is one
+abbrev pub lookedAt : Operation → ℕ
+lookedAt EctExecute = 2
+lookedAt (ExplicitEctExecute l) = 3
+lookedAt EctLinkIdRequest = 2
+
+-- the octets behind the first n elements
+abbrev pub behind : ℕ → List ℕ → List ℕ
+behind zero s = s
+behind (suc n) s = behind n (restOf (firstElement s))
+
+-- an integer has the fewest octets that say it; what is no integer may be as it is
+abbrev pub Shortest : Option IntegerOctets → Type 0
+Shortest none = Unit {0}
+Shortest (some o) = o ≡ fewest (integerOf o)
+
+-- each integer among the first n elements
+abbrev pub ShortestAmong : ℕ → List ℕ → Type 0
+ShortestAmong zero s = Unit {0}
+ShortestAmong (suc n) s = Shortest (integerIn (firstElement s)) × ShortestAmong n (restOf (firstElement s))
+
+-- "a read invoke that has shortest integers and no further elements"
+pub record Plain (op : Operation) (s : List ℕ) : Type 0 where
+  pub shortest : ShortestAmong (lookedAt op) (contents s)
+  pub nothing-behind : behind (lookedAt op) (contents s) ≡ []
