@@ -1,6 +1,7 @@
 //! The single steps from which logs are made.
 
 use crate::board::{Aux, CallState, LinkId, Reference, INCOMING, OUTGOING};
+use crate::component::Operation;
 use crate::odd;
 use crate::records;
 use crate::script::Script;
@@ -83,9 +84,7 @@ fn execute(script: &mut Script) {
     let held =
         if script.rng.percent(60) { script.pick_call_with(|call| call.aux == Aux::Held) } else { None };
     let Some(call) = held.or_else(|| script.pick_call()) else { return open(script) };
-    let identifier = script.identifier();
-    let component = records::execute(&identifier);
-    script.facility(call.reference, &component);
+    script.ask(call.reference, Operation::Execute);
 }
 
 /// The LinkId of another call, the own one, one that is gone, or any value.
@@ -100,15 +99,7 @@ fn explicit(script: &mut Script) {
         2 => Some(LinkId(script.rng.draw() as i16)),
         _ => live,
     };
-    explicit_to(script, call.reference, link.unwrap_or(LinkId(-3)));
-}
-
-/// ExplicitEctExecute with a LinkId in fewest octets or, at times, padded.
-pub fn explicit_to(script: &mut Script, reference: Reference, link: LinkId) {
-    let identifier = script.identifier();
-    let padded = script.rng.percent(25);
-    let value = if padded { records::long_integer(link.0) } else { records::short_integer(link.0) };
-    script.facility(reference, &records::explicit(&identifier, &value));
+    script.ask(call.reference, Operation::Explicit(link.unwrap_or(LinkId(-3))));
 }
 
 /// Brings two calls into a combination that may be transferred and asks for it.
@@ -125,10 +116,9 @@ pub fn pair(script: &mut Script) {
         script.link(named);
     }
     if script.rng.percent(50) {
-        let identifier = script.identifier();
-        script.facility(named, &records::execute(&identifier));
+        script.ask(named, Operation::Execute);
     } else if let Some(link) = script.link(other) {
-        explicit_to(script, named, link);
+        script.ask(named, Operation::Explicit(link));
     }
 }
 
@@ -188,8 +178,7 @@ fn bad_open(script: &mut Script) -> Vec<u8> {
 }
 
 fn bad_facility(script: &mut Script, reference: Reference) -> Vec<u8> {
-    let identifier = script.identifier();
-    let mut record = records::facility(reference, &records::execute(&identifier));
+    let mut record = records::facility(reference, &script.invoke(Operation::Execute));
     match script.rng.below(3) {
         0 => record[3] = 0,
         1 => record[3] = script.rng.within(33, 255) as u8,
@@ -249,6 +238,5 @@ fn clutter(script: &mut Script) {
         last = fresh_call(script, alerts);
     }
     let named = if script.rng.percent(70) { held } else { last };
-    let identifier = script.identifier();
-    script.facility(named, &records::execute(&identifier));
+    script.ask(named, Operation::Execute);
 }

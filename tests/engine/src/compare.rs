@@ -1,7 +1,7 @@
 //! Comparing another player's text with the engine's, octet by octet.
 
 use crate::logs::{Logs, CYCLES, LEAST_EVENTS};
-use crate::notice::watch;
+use crate::notice::{watch, Fault};
 use crate::play::{next_record, play, start};
 use crate::program::{Feed, Program};
 use crate::tally::Tally;
@@ -59,7 +59,7 @@ fn drops_swapped(expected: &[u8], got: &[u8]) -> bool {
 pub fn engine_alone(seed: u64) -> Result<Tally, String> {
     let mut tally = Tally::default();
     for log in Logs::new(seed) {
-        watch(&log, &mut tally).map_err(|fault| format!("{fault}\nlog {}", hex(&log)))?;
+        watched(&log, &mut tally)?;
     }
     finished(&tally)?;
     Ok(tally)
@@ -71,7 +71,7 @@ pub fn against(path: &str, seed: u64) -> Result<Tally, String> {
     let mut tally = Tally::default();
     let mut expected = Vec::new();
     for (number, log) in Logs::new(seed).enumerate() {
-        watch(&log, &mut tally).map_err(|fault| format!("{fault}\nlog {}", hex(&log)))?;
+        watched(&log, &mut tally)?;
         expected.clear();
         play(&log, &mut expected);
         same(&program, &log, Feed::Whole, &expected)?;
@@ -82,6 +82,14 @@ pub fn against(path: &str, seed: u64) -> Result<Tally, String> {
     }
     finished(&tally)?;
     Ok(tally)
+}
+
+/// Watches a log; a fault is told with the log as far as its event.
+fn watched(log: &[u8], tally: &mut Tally) -> Result<(), String> {
+    watch(log, tally).map_err(|Fault { event, what }| {
+        let log = hex(up_to(log, event));
+        format!("log {log}\nevent {event} of the engine is at fault\n{what}")
+    })
 }
 
 fn same(program: &Program, log: &[u8], feed: Feed, expected: &[u8]) -> Result<(), String> {

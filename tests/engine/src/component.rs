@@ -36,7 +36,7 @@ pub struct Element<'a> {
 
 impl Element<'_> {
     /// The value of an integer of one or two octets.
-    fn integer(&self) -> Option<i16> {
+    pub fn integer(&self) -> Option<i16> {
         match (self.tag, self.contents) {
             (0x02, &[octet]) => Some(octet as i8 as i16),
             (0x02, &[high, low]) => Some(i16::from_be_bytes([high, low])),

@@ -1,7 +1,8 @@
 //! The long log: LinkIds go once round all 65,536 values, some of them staying live.
 
-use crate::actions::{explicit_to, pair};
+use crate::actions::pair;
 use crate::board::{Aux, CallState, LinkId, Reference, OUTGOING};
+use crate::component::Operation;
 use crate::records;
 use crate::rng::Rng;
 use crate::script::Script;
@@ -60,7 +61,7 @@ fn transfer(script: &mut Script, named: Reference, (other, link): (Reference, Li
     script.to_state(other, if alerts { CallState::Delivered } else { CallState::Active });
     let held = if script.rng.percent(70) { named } else { other };
     script.to_aux(held, Aux::Held);
-    explicit_to(script, named, link);
+    script.ask(named, Operation::Explicit(link));
 }
 
 fn release(script: &mut Script, reference: Reference) {

@@ -6,6 +6,7 @@ pub mod board;
 pub mod component;
 pub mod event;
 pub mod index;
+pub mod invoke;
 pub mod lookup;
 pub mod play;
 pub mod reply;
@@ -25,6 +26,7 @@ pub mod script;
 // Tallying what occurs in them.
 pub mod notice;
 pub mod notice_component;
+pub mod notice_invoke;
 pub mod tally;
 
 // Playing them through another program.

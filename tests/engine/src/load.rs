@@ -1,7 +1,8 @@
 //! Long logs that keep a board at a given load, for timing.
 
-use crate::actions::{explicit_to, step, Style};
+use crate::actions::{step, Style};
 use crate::board::{Aux, Call, CallState};
+use crate::component::Operation;
 use crate::records;
 use crate::rng::Rng;
 use crate::script::Script;
@@ -54,7 +55,7 @@ fn transfer(script: &mut Script) {
     match (held, linked) {
         (Some(held), Some(idle)) => {
             let link = idle.link.unwrap_or(script.board.candidate);
-            explicit_to(script, held.reference, link);
+            script.ask(held.reference, Operation::Explicit(link));
         }
         (Some(_), None) => {
             let idle = script.pick_call_with(|call| call.may_hold() && call.aux == Aux::Idle);

@@ -5,6 +5,7 @@ use std::collections::HashSet;
 use crate::board::{Aux, Board, Call, CallState, LinkId, Reference, Row, Standing, INCOMING};
 use crate::event::{event, Answer, Event, HOLD, OPEN, PROGRESS, RELEASE};
 use crate::notice_component;
+use crate::notice_invoke::rewritten;
 use crate::play::{next_record, start};
 use crate::reply::{mark, BUFFER};
 use crate::rows::board_sound;
@@ -25,8 +26,15 @@ pub struct Moment<'a> {
     pub returned: u8,
 }
 
-/// Plays a log and tallies it; says what the engine did that no engine may do.
-pub fn watch(log: &[u8], tally: &mut Tally) -> Result<(), String> {
+/// What the engine did that no engine may do, and at which event, counted from 1.
+#[derive(PartialEq, Eq, Debug)]
+pub struct Fault {
+    pub event: usize,
+    pub what: String,
+}
+
+/// Plays a log and tallies it; says what is at fault.
+pub fn watch(log: &[u8], tally: &mut Tally) -> Result<(), Fault> {
     tally.logs += 1;
     let Some((mut board, mut rest)) = start(log) else {
         bad_options(log, tally);
@@ -42,16 +50,15 @@ pub fn watch(log: &[u8], tally: &mut Tally) -> Result<(), String> {
         let before = board.clone();
         let mut buffer = [0x5A; BUFFER];
         let answer = event(&mut board, record, &mut buffer);
-        stands(&before, &board, answer, &buffer).map_err(|fault| format!("event {number}: {fault}"))?;
-        notice(
-            &Moment { before: &before, after: &board, record, returned: answer.returned },
-            &mut past,
-            tally,
-        );
+        let moment = Moment { before: &before, after: &board, record, returned: answer.returned };
+        stands(&before, &board, answer, &buffer)
+            .and_then(|()| invokes_stand(&moment, tally))
+            .map_err(|what| Fault { event: number, what })?;
+        notice(&moment, &mut past, tally);
         tally.add_if(answer.returned == 4 && rest.len() == 1, Seen::UnknownKindLast);
         rest = after;
     }
-    tally.events += number;
+    tally.events += number as u64;
     Ok(())
 }
 
@@ -66,21 +73,29 @@ fn bad_options(log: &[u8], tally: &mut Tally) {
 
 /// What holds of every event: a sound board after it, nothing changed by a refusal or by
 /// an error, nothing written beyond the octets counted.
-fn stands(before: &Board, after: &Board, answer: Answer, buffer: &[u8; BUFFER]) -> Result<(), &'static str> {
+fn stands(before: &Board, after: &Board, answer: Answer, buffer: &[u8; BUFFER]) -> Result<(), String> {
     let error = answer.written == 36 && matches!(buffer[4], 0xA3 | 0xA4);
     if (answer.returned != 0 || error) && before != after {
-        return Err("a refusal or an error changed the board");
+        return Err("a refusal or an error changed the board".to_string());
     }
     if answer.returned != 0 && answer.written != 0 {
-        return Err("a refusal wrote octets");
+        return Err("a refusal wrote octets".to_string());
     }
     if buffer[answer.written..].iter().any(|&octet| octet != 0x5A) {
-        return Err("octets beyond those counted were written");
+        return Err("octets beyond those counted were written".to_string());
     }
     if !board_sound(after) {
-        return Err("the board is no longer sound");
+        return Err("the board is no longer sound".to_string());
     }
     Ok(())
+}
+
+/// What holds of every invoke that a Facility handed over: see `rewritten`.
+fn invokes_stand(moment: &Moment, tally: &mut Tally) -> Result<(), String> {
+    match Event::read(moment.record) {
+        Ok(Event::Facility { component, .. }) if moment.returned == 0 => rewritten(component, tally),
+        _ => Ok(()),
+    }
 }
 
 fn notice(moment: &Moment, past: &mut Past, tally: &mut Tally) {

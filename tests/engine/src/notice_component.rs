@@ -93,7 +93,8 @@ fn depth(mut octets: &[u8], at: u8) -> (u8, bool) {
     deepest
 }
 
-fn elements(mut octets: &[u8]) -> Vec<Element<'_>> {
+/// The elements at the depth of these octets.
+pub fn elements(mut octets: &[u8]) -> Vec<Element<'_>> {
     let mut list = Vec::new();
     while let Some((element, rest)) = take(octets) {
         list.push(element);

@@ -6,7 +6,7 @@ use crate::rng::Rng;
 use crate::script::Script;
 
 pub fn component(script: &mut Script) -> Vec<u8> {
-    let identifier = script.identifier();
+    let identifier = script.identifier_element();
     let link = script.pick_call_with(|call| call.link.is_some()).and_then(|call| call.link);
     let link = link.map_or(1, |link| link.0);
     let rng = &mut *script.rng;

@@ -2,7 +2,9 @@
 //! steered by what is on the board.
 
 use crate::board::{Aux, Board, Call, CallState, LinkId, Reference, Row, Standing};
+use crate::component::Operation;
 use crate::event::event;
+use crate::invoke::{Invoke, InvokeId, ROOM};
 use crate::records;
 use crate::reply::BUFFER;
 use crate::rng::Rng;
@@ -112,13 +114,38 @@ impl<'a> Script<'a> {
         }
     }
 
-    /// A valid identifier element: short, padded, long or negative.
-    pub fn identifier(&mut self) -> Vec<u8> {
-        match self.rng.below(4) {
-            0 | 1 => records::short_integer(self.rng.below(256) as i16 - 128),
-            2 => records::long_integer(self.rng.below(256) as i16 - 128),
-            _ => records::short_integer(self.rng.draw() as i16),
+    /// An invoke identifier: where the sign or the number of octets changes, of one octet,
+    /// or from all over.
+    fn identifier(&mut self) -> InvokeId {
+        const BORDERS: [i16; 8] = [-32768, -129, -128, -1, 0, 127, 128, 32767];
+        InvokeId(match self.rng.below(4) {
+            0 => self.rng.pick(&BORDERS),
+            1 => self.rng.below(256) as i16 - 128,
+            _ => self.rng.draw() as i16,
+        })
+    }
+
+    /// An identifier's element, at times padded.
+    pub fn identifier_element(&mut self) -> Vec<u8> {
+        let padded = self.rng.percent(25);
+        integer(self.identifier().0, padded)
+    }
+
+    /// An invoke as the writer gives it or, at times, padded.
+    pub fn invoke(&mut self, operation: Operation) -> Vec<u8> {
+        let invoke = Invoke { identifier: self.identifier(), operation };
+        match self.rng.below(12) {
+            0 => padded(&invoke, true, false),
+            1 => padded(&invoke, false, true),
+            2 => padded(&invoke, true, true),
+            _ => written(&invoke),
         }
+    }
+
+    /// Sends an invoke on a call; gives what the event returned.
+    pub fn ask(&mut self, reference: Reference, operation: Operation) -> u8 {
+        let component = self.invoke(operation);
+        self.facility(reference, &component)
     }
 
     pub fn digits(&mut self) -> Vec<u8> {
@@ -163,10 +190,34 @@ impl<'a> Script<'a> {
 
     /// Asks for a LinkId; gives the one the call then has.
     pub fn link(&mut self, reference: Reference) -> Option<LinkId> {
-        let identifier = self.identifier();
-        self.facility(reference, &records::link_request(&identifier));
+        self.ask(reference, Operation::LinkRequest);
         let link = self.call(reference).and_then(|call| call.link)?;
         self.old_links.push(link);
         Some(link)
+    }
+}
+
+/// The octets that the writer gives.
+fn written(invoke: &Invoke) -> Vec<u8> {
+    let mut buffer = [0; ROOM];
+    let count = invoke.write(&mut buffer).expect("the buffer is long enough");
+    buffer[..count].to_vec()
+}
+
+/// An invoke with its identifier in two octets, or what stands behind it: 6 or the LinkId.
+fn padded(invoke: &Invoke, first: bool, behind: bool) -> Vec<u8> {
+    let identifier = integer(invoke.identifier.0, first);
+    match invoke.operation {
+        Operation::Execute => records::invoke(&[&identifier, &integer(6, behind)]),
+        Operation::Explicit(link) => records::explicit(&identifier, &integer(link.0, behind)),
+        Operation::LinkRequest => records::link_request(&identifier),
+    }
+}
+
+fn integer(value: i16, padded: bool) -> Vec<u8> {
+    if padded {
+        records::long_integer(value)
+    } else {
+        records::short_integer(value)
     }
 }

@@ -5,7 +5,10 @@ use std::fs;
 
 use engine::board::LinkId;
 use engine::component::{read, Operation, Reading, LINK_REQUEST};
+use engine::invoke::{Invoke, InvokeId, ROOM};
+use engine::notice_invoke::rewritten;
 use engine::reply::Component;
+use engine::tally::Tally;
 
 const NULL: &[u8] = &[0x05, 0x00];
 const GENERAL: u8 = 0x80;
@@ -83,7 +86,7 @@ fn is_read(octets: &[u8], words: &[&str]) -> Option<bool> {
 }
 
 /// The answer that these words name.
-fn written(words: &[&str]) -> Option<Component> {
+fn answer(words: &[&str]) -> Option<Component> {
     match words {
         ["result", id] => Some(Component::result(&identifier(id))),
         ["linkid", id, link] => {
@@ -99,15 +102,50 @@ fn written(words: &[&str]) -> Option<Component> {
     }
 }
 
+/// The invoke that these words name.
+fn invoke(words: &[&str]) -> Option<Invoke> {
+    let (identifier, operation) = match words {
+        [id, "EctExecute"] => (id, Operation::Execute),
+        [id, "ExplicitEctExecute", link] => (id, Operation::Explicit(LinkId(number(link)))),
+        [id, "EctLinkIdRequest"] => (id, Operation::LinkRequest),
+        _ => return None,
+    };
+    Some(Invoke { identifier: InvokeId(number(identifier)), operation })
+}
+
+/// Whether the writer gives these octets for the invoke, and they are read as the same.
+fn is_written(octets: &[u8], invoke: Invoke) -> bool {
+    let mut buffer = [0; ROOM];
+    let count = invoke.write(&mut buffer).expect("refused");
+    buffer[..count] == *octets && Invoke::read(octets) == Some(invoke)
+}
+
 #[test]
 fn engine_agrees_with_each_coding() {
     for Coding { octets, what, line } in list() {
         let words: Vec<&str> = what.split(' ').collect();
         let agrees = match words.as_slice() {
-            ["answer", words @ ..] => written(words).map(|component| component.octets() == octets),
+            ["answer", words @ ..] => answer(words).map(|component| component.octets() == octets),
+            ["written", words @ ..] => invoke(words).map(|invoke| is_written(&octets, invoke)),
             words => is_read(&octets, words),
         };
         assert_eq!(agrees, Some(true), "{line}");
+        assert_eq!(rewritten(&octets, &mut Tally::default()), Ok(()), "{line}");
+    }
+}
+
+/// Each operation is listed with the identifiers where sign or length changes, and such LinkIds too.
+#[test]
+fn written_invokes_are_listed() {
+    let listed: Vec<String> = list().into_iter().map(|coding| coding.what).collect();
+    let borders = [-32768, -129, -128, -1, 0, 127, 128, 32767];
+    for number in borders {
+        for name in ["EctExecute", "ExplicitEctExecute", "EctLinkIdRequest"] {
+            let found = listed.iter().any(|what| what.starts_with(&format!("written {number} {name}")));
+            assert!(found, "written {number} {name}");
+        }
+        let link = format!(" ExplicitEctExecute {number}");
+        assert!(listed.iter().any(|what| what.starts_with("written ") && what.ends_with(&link)), "{link}");
     }
 }
 

@@ -4,8 +4,9 @@ mod common;
 
 use common::{error, Desk, DONE, ID, NOT_ASSIGNED};
 use engine::board::{Aux, Board, Call, CallState, LinkId, Reference};
-use engine::component::LINK_REQUEST;
+use engine::component::{Operation, LINK_REQUEST};
 use engine::event::event;
+use engine::invoke::{Invoke, InvokeId};
 use engine::records;
 use engine::rows::count;
 use engine::serve::verdict;
@@ -60,6 +61,26 @@ fn link_id_octets() {
     assert_eq!(link_octets(-1), [0x02, 0x01, 0xFF]);
     assert_eq!(link_octets(32767), [0x02, 0x02, 0x7F, 0xFF]);
     assert_eq!(link_octets(-32768), [0x02, 0x02, 0x80, 0x00]);
+}
+
+/// The element of that invoke identifier as it is written.
+fn identifier_octets(value: i16) -> Vec<u8> {
+    let mut buffer = [0; 32];
+    let invoke = Invoke { identifier: InvokeId(value), operation: Operation::LinkRequest };
+    let count = invoke.write(&mut buffer).unwrap();
+    assert_eq!(buffer[..2], [0xA1, count as u8 - 2]);
+    assert_eq!(buffer[count - 8..count], records::object(LINK_REQUEST));
+    buffer[2..count - 8].to_vec()
+}
+
+#[test]
+fn invoke_identifier_octets() {
+    assert_eq!(identifier_octets(-129), [0x02, 0x02, 0xFF, 0x7F]);
+    assert_eq!(identifier_octets(-128), [0x02, 0x01, 0x80]);
+    assert_eq!(identifier_octets(-1), [0x02, 0x01, 0xFF]);
+    assert_eq!(identifier_octets(0), [0x02, 0x01, 0x00]);
+    assert_eq!(identifier_octets(127), [0x02, 0x01, 0x7F]);
+    assert_eq!(identifier_octets(128), [0x02, 0x02, 0x00, 0x80]);
 }
 
 #[test]
@@ -164,6 +185,13 @@ fn buffer_of_127_and_of_128() {
     let record = records::open(Reference(1), 1, 0, 0, b"");
     assert_eq!(event(&mut board, &record, &mut [0; 127]).returned, 1);
     assert_eq!(event(&mut board, &record, &mut [0; 128]).returned, 0);
+}
+
+#[test]
+fn invoke_into_31_octets_and_into_32() {
+    let invoke = Invoke { identifier: InvokeId(5), operation: Operation::Execute };
+    assert_eq!(invoke.write(&mut [0; 31]), Err(1));
+    assert_eq!(invoke.write(&mut [0; 32]), Ok(8));
 }
 
 #[test]
