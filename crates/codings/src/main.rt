@@ -7,9 +7,12 @@ use text::answered;
 use text::is_text;
 use text::print_text;
 use text::seen;
+use text::written;
 use words::Answered;
+use words::Invoked;
 use words::answer;
 use words::begins;
+use words::invoke;
 use words::octets;
 ghost use Prim.Native.Nat.{_+_, _≤_};
 ghost use lib.ListN.{length};
@@ -52,13 +55,20 @@ fn compare(coding: Text, fields: &[u8]) {
     print(b"\n");
 }
 
-// A component that is read, or an answer that is written: the octets as the list has them, what it says that they are,
-// and both as they stand there.
+// A component that is read, or an answer or an invoke that is written: the octets as the list has them, what it says
+// that they are, and both as they stand there.
 fn coding(hex: &[u8], words: &[u8], fields: &[u8]) {
     if begins(words, b"answer ") {
         match answer(words) {
             Answered::Answer(a) => compare(answered(a), fields),
             Answered::Unknown => complain(b"no such answer: ", fields),
+        }
+        return;
+    }
+    if begins(words, b"written ") {
+        match invoke(words) {
+            Invoked::Invoke(i, asked) => compare(written(i, asked), fields),
+            Invoked::Unknown => complain(b"no such invoke: ", fields),
         }
         return;
     }

@@ -4,9 +4,12 @@ use component::Component;
 use component::Operation;
 use component::Reading;
 use component::Reject;
+use invokes::WriteAnswer;
+use invokes::write_invoke;
 use libc::STDOUT_FILENO;
+use octets::Integer;
 use octets::IntegerOctets;
-use octets::LinkId;
+use octets::InvokeIdentifier;
 ghost use Prim.Native.Nat.{_≤_};
 
 // Text of up to 128 octets, which is more than any coding takes; what is more is left out.
@@ -56,17 +59,22 @@ impl Text {
         self.words(&digits[..k])
     }
 
-    fn component(self, c: Component) -> Text {
+    // The first n octets, which are those that were written.
+    fn front(self, n: usize, octets: &[u8]) -> Text {
         let mut text = self;
-        let mut i: u8 = 0;
-        while i < c.count {
-            let at = i as usize;
-            if at < 32 {
-                text = text.hex(c.octets[at]);
+        let mut i = 0;
+        while i < n {
+            if i < octets.len() {
+                text = text.hex(octets[i]);
             }
             i += 1;
         }
         text
+    }
+
+    fn component(self, c: Component) -> Text {
+        let octets = c.octets;
+        self.front(c.count as usize, &octets)
     }
 
     fn identifier(self, i: IntegerOctets) -> Text {
@@ -76,8 +84,8 @@ impl Text {
         }
     }
 
-    fn link_id(self, id: LinkId) -> Text {
-        let n = id.to_integer().to_bits();
+    fn integer(self, integer: Integer) -> Text {
+        let n = integer.to_bits();
         if n < 32768 {
             return self.decimal(n);
         }
@@ -87,7 +95,8 @@ impl Text {
     fn operation(self, asked: Operation) -> Text {
         match asked {
             Operation::EctExecute => self.words(b" EctExecute"),
-            Operation::ExplicitEctExecute(id) => self.words(b" ExplicitEctExecute ").link_id(id),
+            Operation::ExplicitEctExecute(id) => self.words(b" ExplicitEctExecute ")
+                .integer(id.to_integer()),
             Operation::EctLinkIdRequest => self.words(b" EctLinkIdRequest"),
         }
     }
@@ -126,7 +135,7 @@ impl Text {
             Answer::LinkIdResult(i, id) => self.words(b"linkid ")
                 .identifier(i)
                 .words(b" ")
-                .link_id(id),
+                .integer(id.to_integer()),
         }
     }
 }
@@ -152,6 +161,20 @@ pub fn answered(answer: Answer) -> Text {
         .component(component::encode(answer))
         .words(b" ; answer ")
         .answer(answer)
+}
+
+// The octets that the writer gives for an invoke, none where it refuses, and the invoke.
+pub fn written(identifier: InvokeIdentifier, operation: Operation) -> Text {
+    let mut octets = [0u8; 32];
+    let count = match write_invoke(operation, identifier, &mut octets) {
+        WriteAnswer::Written(n) => n,
+        WriteAnswer::BufferTooSmall => 0,
+    };
+    empty()
+        .front(count, &octets)
+        .words(b" ; written ")
+        .integer(identifier.to_integer())
+        .operation(operation)
 }
 
 pub fn is_text(text: Text, s: &[u8]) -> bool {

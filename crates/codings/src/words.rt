@@ -2,15 +2,23 @@
 // is none, or a word too many, shows there.
 use component::Answer;
 use component::Component;
+use component::Operation;
 use component::Reject;
 use octets::Integer;
 use octets::IntegerOctets;
+use octets::InvokeIdentifier;
 use octets::LinkId;
 ghost use Prim.Native.Nat.{_+_, _≤_};
 
 // The answer that the list names.
 pub enum Answered {
     Answer(Answer),
+    Unknown,
+}
+
+// The invoke that the list names.
+pub enum Invoked {
+    Invoke(InvokeIdentifier, Operation),
     Unknown,
 }
 
@@ -124,17 +132,24 @@ fn small_number(s: &[u8], from: usize) -> u8
     (number(s, from) % 256) as u8
 }
 
-fn link_id(s: &[u8], from: usize) -> LinkId
+// A number that may be negative.
+fn integer(s: &[u8], from: usize) -> Integer
     requires { ⌜ from ≤ 40 ⌝ }
 {
     if at(s, from) != b'-' {
-        return LinkId::from_integer(Integer::from_bits(number(s, from)));
+        return Integer::from_bits(number(s, from));
     }
     let n = number(s, from + 1);
     if n == 0 {
-        return LinkId(0);
+        return Integer(0);
     }
-    LinkId::from_integer(Integer::from_bits(65535 - (n - 1)))
+    Integer::from_bits(65535 - (n - 1))
+}
+
+fn link_id(s: &[u8], from: usize) -> LinkId
+    requires { ⌜ from ≤ 40 ⌝ }
+{
+    LinkId::from_integer(integer(s, from))
 }
 
 fn reject(s: &[u8]) -> Answered {
@@ -168,4 +183,42 @@ pub fn answer(s: &[u8]) -> Answered {
         return Answered::Answer(Answer::LinkIdNotAssigned(identifier(s, 19)));
     }
     reject(s)
+}
+
+// Where the word after a number begins: behind the first space, which is at most six octets on.
+fn after_number(s: &[u8], from: usize) -> usize
+    requires { ⌜ from ≤ 30 ⌝ }
+    ensures { λ r. ⌜ r ≤ 40 ⌝ }
+{
+    let mut i = from;
+    while i < from + 6 {
+        if at(s, i) == b' ' {
+            return i + 1;
+        }
+        i += 1;
+    }
+    i + 1
+}
+
+// An invoke whose operation these words name.
+fn operation(s: &[u8], identifier: InvokeIdentifier) -> Invoked {
+    if begins(s, b"EctExecute ") {
+        return Invoked::Invoke(identifier, Operation::EctExecute);
+    }
+    if begins(s, b"ExplicitEctExecute ") {
+        return Invoked::Invoke(identifier, Operation::ExplicitEctExecute(link_id(s, 19)));
+    }
+    if begins(s, b"EctLinkIdRequest ") {
+        return Invoked::Invoke(identifier, Operation::EctLinkIdRequest);
+    }
+    Invoked::Unknown
+}
+
+pub fn invoke(s: &[u8]) -> Invoked {
+    let identifier = InvokeIdentifier::from_integer(integer(s, 8));
+    let from = after_number(s, 8);
+    if from <= s.len() {
+        return operation(&s[from..], identifier);
+    }
+    Invoked::Unknown
 }

@@ -1,4 +1,5 @@
-// Runs cases and prints a line for each: every refusal of `step`, a transfer, and README's sample.
+// Runs cases and prints a line for each: every refusal of `step`, a transfer, README's sample, and invokes that are
+// written and read back.
 use board::Board;
 use board::Options;
 use ect::StepAnswer;
@@ -7,6 +8,7 @@ use events::refusal_number;
 use show::decimal;
 use show::text;
 
+mod invoking;
 mod sample;
 mod show;
 mod transfer;
@@ -116,4 +118,6 @@ fn main() {
     on_the_board(fresh);
     transfer::ward_transfer(fresh);
     sample::sample();
+    invoking::written_and_read();
+    invoking::buffers();
 }

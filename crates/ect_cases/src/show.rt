@@ -1,4 +1,6 @@
 // Prints words, numbers, and octets in hex.
+use octets::Integer;
+
 fn wide(octet: u8) -> u64 {
     octet as u64
 }
@@ -9,6 +11,17 @@ pub fn text(words: &[u8]) {
 
 pub fn decimal(n: u64) {
     io::print_decimal(1, n);
+}
+
+// A number that may be negative.
+pub fn signed(integer: Integer) {
+    let n = integer.to_bits();
+    if n < 32768 {
+        decimal(n as u64);
+        return;
+    }
+    text(b"-");
+    decimal((65535 - n + 1) as u64);
 }
 
 pub fn hex(octets: &[u8]) {

@@ -1,22 +1,19 @@
 use borrow.Author.Needs.{needs}
 use Prim.Native.Nat.{_≤_, _-_}
-use Rattle.codings.proofs.text.Text.component.Statement.{statement}
-use Rattle.codings.proofs.text.Text.component.Tie as tie
+use Rattle.codings.proofs.text.Text.front.Statement.{statement}
+use Rattle.codings.proofs.text.Text.front.Tie as tie
 
 abbrev Inv-loop : tie.InvT-loop
-Inv-loop c text₀ i₀ text i = i ≤ c .count
+Inv-loop n octets text₀ i₀ text i = i ≤ n
 
 abbrev μ-loop : tie.MeasureT-loop
-μ-loop c text₀ i₀ text i = c .count - i
+μ-loop n octets text₀ i₀ text i = n - i
 
 loop-holds : tie.Need-loop-holds Inv-loop μ-loop
 loop-holds c = search needs
 
-cast-at : tie.Need-cast-at Inv-loop μ-loop
-cast-at c = search needs
-
-element-copy-out-hex : tie.Need-element-copy-out-hex Inv-loop μ-loop
-element-copy-out-hex c = search needs
+shared-slice-read-hex : tie.Need-shared-slice-read-hex Inv-loop μ-loop
+shared-slice-read-hex c = search needs
 
 hex-requires : tie.Need-hex-requires Inv-loop μ-loop
 hex-requires c κs = search needs
@@ -33,15 +30,14 @@ loop-again c = search needs
 returns : tie.Need-returns Inv-loop μ-loop
 returns c = search needs
 
-pub component-spec : {M : Type 1} → statement M
-component-spec =
+pub front-spec : {M : Type 1} → statement M
+front-spec =
     tie.close
     (tie.spec
     Inv-loop
     μ-loop
     loop-holds
-    cast-at
-    element-copy-out-hex
+    shared-slice-read-hex
     hex-requires
     add-i
     loop-less
