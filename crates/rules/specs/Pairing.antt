@@ -23,5 +23,8 @@ verdict c d =
     0
 
 -- "Calls pair at verdict 1, and at verdict 2 if the alerting option is 1."
+abbrev pub pairsAt : Options → ℕ → Bool
+pairsAt o v = eqb v 1 || (eqb v 2 && eqb (o .alerting) 1)
+
 unfoldable pub callsPair : Options → Call → Call → Bool
-callsPair o c d = eqb (verdict c d) 1 || (eqb (verdict c d) 2 && eqb (o .alerting) 1)
+callsPair o c d = pairsAt o (verdict c d)

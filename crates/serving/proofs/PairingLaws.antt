@@ -1,14 +1,14 @@
--- The pair rule by its tests, and the one party that passes a test, by the places of the rows that have such a party.
+-- Pairing by the table, and the one party that passes a test, by the places of the rows that have such a party.
 use Prim.Native.Nat.{_+_, ℕ, suc}
 use native.Mathlib.Omega.{arith}
 use mathlib.Core.Path.{_∙_, refl, sym, ap, ap₂, _≡_, subst}
-use mathlib.Core.Bool.{_&&_, _||_, true, Bool, not, false, cond}
+use mathlib.Core.Bool.{_&&_, true, Bool, not, false}
 use mathlib.Core.List.{_∷_, List, []}
 use mathlib.Core.Option.{some, Option, none, Option·map}
 use lib.ListN.{getD, drop}
 use Rattle.board.proofs.Searches.{calls-of-rows}
 use Rattle.board.specs.Entries.{calls, taken, foundParty, rowParty}
-use Rattle.board.specs.States.{active}
+use Rattle.board.specs.declared.Options.{Options}
 use Rattle.board.specs.declared.Call.{Call}
 use Rattle.board.specs.declared.Party.{Party}
 use Rattle.board.specs.declared.Row.{Row}
@@ -17,32 +17,37 @@ use Rattle.octets.proofs.Lists.{true-not-false, left, all-by, filter-mem}
 use Rattle.octets.proofs.Places.{place-cons, place-lowest}
 use Rattle.octets.specs.Lists.{all, filter, filterMap, consIf, consOpt, only, placeFrom, orElse}
 use Rattle.octets.specs.Tests.{has}
-use Rattle.rules.specs.Pairing.{verdict, heldWithIdle, activeWithDelivered}
+use Rattle.rules.specs.Pairing.{verdict, pairsAt, callsPair}
+use Rattle.rules.specs.Serving.{sameCall, partnerFor}
+use Rattle.verdicts.specs.Tables.{tableOf, verdictIn}
+use Rattle.verdicts.proofs.PairTable.{entry-is-verdict}
+use Rattle.serving.specs.Code.Lookups.{callsPairBy, partnerBy, hasPartnerBy}
+use Rattle.serving.specs.Code.Parties.{hasPartner}
 use native.Mathlib.Numerals.{add-one}
 use Rattle.board.specs.declared.FoundParty.the-variants as found-party
 
--- ---- the verdict
+-- ---- pairing by the table
 
-pub was-true : (b : Bool) → not b ≡ false → b ≡ true
-was-true true h = refl
-was-true false h = sym h
+-- verdict 0 pairs no calls
+pub zero-pairs-not : (o : Options) {v : ℕ} → v ≡ 0 → false ≡ pairsAt o v
+zero-pairs-not o h = sym (ap (pairsAt o) h)
 
-module _ (c d : Call) where
-  pub verdict-not-held : heldWithIdle c d ≡ false → 0 ≡ verdict c d
-  verdict-not-held h = sym (ap (λ (b : Bool). cond {A = ℕ} b (cond (active c && active d) 1 (cond (activeWithDelivered c d || activeWithDelivered d c) 2 0)) 0) h)
+module _ (table : List ℕ) (e : table ≡ tableOf verdict) (o : Options) where
+  pairs-by : (c d : Call) → callsPairBy table o c d ≡ callsPair o c d
+  unfolding callsPair
+  pairs-by c d = ap (pairsAt o) (ap (λ (t : List ℕ). verdictIn t c d) e ∙ entry-is-verdict c d)
 
-  module _ (h : heldWithIdle c d ≡ true) where
-    held-verdict : verdict c d ≡ cond (active c && active d) 1 (cond (activeWithDelivered c d || activeWithDelivered d c) 2 0)
-    held-verdict = ap (λ (b : Bool). cond {A = ℕ} b (cond (active c && active d) 1 (cond (activeWithDelivered c d || activeWithDelivered d c) 2 0)) 0) h
+  -- what the lookup told of a party
+  pub partner-by : (named q : Party) {b : Bool} → b ≡ partnerBy table o named q → b ≡ partnerFor o named q
+  partner-by named q h = h ∙ ap (λ (b : Bool). not (sameCall named q) && b) (pairs-by (named .call) (q .call))
 
-    pub verdict-active : (active c && active d) ≡ true → 1 ≡ verdict c d
-    verdict-active a = sym (held-verdict ∙ ap (λ (b : Bool). cond {A = ℕ} b 1 (cond (activeWithDelivered c d || activeWithDelivered d c) 2 0)) a)
-
-    pub verdict-delivered : (active c && active d) ≡ false → (activeWithDelivered c d || activeWithDelivered d c) ≡ true → 2 ≡ verdict c d
-    verdict-delivered a e = sym (held-verdict ∙ ap₂ (λ (x y : Bool). cond {A = ℕ} x 1 (cond y 2 0)) a e)
-
-    pub verdict-neither : (active c && active d) ≡ false → (activeWithDelivered c d || activeWithDelivered d c) ≡ false → 0 ≡ verdict c d
-    verdict-neither a e = sym (held-verdict ∙ ap₂ (λ (x y : Bool). cond {A = ℕ} x 1 (cond y 2 0)) a e)
+  -- what the lookup told of a row
+  pub has-by : (named : Party) (row : Row) {b : Bool} → b ≡ hasPartnerBy table o named row → b ≡ hasPartner o named row
+  has-by named row h = h ∙ go (rowParty row)
+    where
+      go : (q : Option Party) → has (partnerBy table o named) q ≡ has (partnerFor o named) q
+      go none = refl
+      go (some q) = partner-by named q refl
 
 -- ---- the one party of the rows that passes a test
 

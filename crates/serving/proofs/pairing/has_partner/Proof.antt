@@ -1,7 +1,7 @@
 use mathlib.Core.Path.{sym, ap, _∙_}
 use Rattle.octets.proofs.Places.{told}
 use Rattle.octets.specs.Tests.{has}
-use Rattle.rules.specs.Serving.{partnerFor}
+use Rattle.serving.specs.Code.Lookups.{partnerBy}
 use Rattle.serving.proofs.PartyLaws.{party-none, party-some}
 use borrow.Author.Needs.{needs}
 use Rattle.serving.proofs.pairing.has_partner.Statement.{statement}
@@ -21,21 +21,21 @@ returns : tie.Need-returns
 returns c =
     let s = c .before .before .before in
     sym
-    (ap (has (partnerFor (s .args .options) (s .args .named)))
+    (ap (has (partnerBy (s .args .table .now) (s .args .options) (s .args .named)))
     (party-none (rowParty (s .args .row)) (told (c .before .before .party-of .ensures) (c .enum-told .given .1))))
 
-is-partner-requires : tie.Need-is-partner-requires
-is-partner-requires c κs = search needs
+is-partner-by-requires : tie.Need-is-partner-by-requires
+is-partner-by-requires c κs = search needs
 
 returns-2 : tie.Need-returns-2
 returns-2 c =
     let s = c .before .before .before .before .before in
-    c .is-partner .ensures
+    c .is-partner-by .ensures
     ∙ sym
-    (ap (has (partnerFor (s .args .options) (s .args .named)))
+    (ap (has (partnerBy (s .args .table .now) (s .args .options) (s .args .named)))
     (party-some (rowParty (s .args .row)) (told (c .before .before .before .before .party-of .ensures) (c .before .before .other .given .1))))
 
 pub has-partner-spec : {M : Type 1} → statement M
 has-partner-spec =
     tie.close
-    (tie.spec party-of-requires enum-known-other enum-told returns is-partner-requires returns-2)
+    (tie.spec party-of-requires enum-known-other enum-told returns is-partner-by-requires returns-2)

@@ -1,0 +1,4 @@
+-- Laws of situations and of tables over them.
+pub mod SituationLaws
+pub mod TableLaws
+pub mod PairTable

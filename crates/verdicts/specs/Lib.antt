@@ -1,0 +1,3 @@
+-- The pair rule as a table.
+pub mod Situations
+pub mod Tables
