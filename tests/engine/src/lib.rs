@@ -8,6 +8,7 @@ pub mod event;
 pub mod index;
 pub mod invoke;
 pub mod lookup;
+pub mod pair_table;
 pub mod play;
 pub mod reply;
 pub mod rows;
@@ -27,6 +28,7 @@ pub mod script;
 pub mod notice;
 pub mod notice_component;
 pub mod notice_invoke;
+pub mod notice_pair;
 pub mod tally;
 
 // Playing them through another program.

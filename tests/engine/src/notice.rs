@@ -6,6 +6,7 @@ use crate::board::{Aux, Board, Call, CallState, LinkId, Reference, Row, Standing
 use crate::event::{event, Answer, Event, HOLD, OPEN, PROGRESS, RELEASE};
 use crate::notice_component;
 use crate::notice_invoke::rewritten;
+use crate::notice_pair::looked_up;
 use crate::play::{next_record, start};
 use crate::reply::{mark, BUFFER};
 use crate::rows::board_sound;
@@ -90,10 +91,12 @@ fn stands(before: &Board, after: &Board, answer: Answer, buffer: &[u8; BUFFER]) 
     Ok(())
 }
 
-/// What holds of every invoke that a Facility handed over: see `rewritten`.
+/// What holds of every invoke that a Facility handed over: see `rewritten` and `looked_up`.
 fn invokes_stand(moment: &Moment, tally: &mut Tally) -> Result<(), String> {
     match Event::read(moment.record) {
-        Ok(Event::Facility { component, .. }) if moment.returned == 0 => rewritten(component, tally),
+        Ok(Event::Facility { reference, component }) if moment.returned == 0 => {
+            rewritten(component, tally).and_then(|()| looked_up(moment, reference, component, tally))
+        }
         _ => Ok(()),
     }
 }

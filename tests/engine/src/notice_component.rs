@@ -148,11 +148,13 @@ fn invoked(
     }
 }
 
-fn row_of(board: &Board, test: impl Fn(&Call) -> bool) -> Option<&Row> {
+/// The row of a call that passes the test.
+pub fn row_of(board: &Board, test: impl Fn(&Call) -> bool) -> Option<&Row> {
     board.rows.iter().find(|row| row.call().is_some_and(&test))
 }
 
-fn others<'a>(board: &'a Board, call: &'a Call) -> impl Iterator<Item = &'a Row> {
+/// The rows of all calls but this one.
+pub fn others<'a>(board: &'a Board, call: &'a Call) -> impl Iterator<Item = &'a Row> {
     let other = |row: &&Row| row.call().is_some_and(|second| second.reference != call.reference);
     board.rows.iter().filter(other)
 }

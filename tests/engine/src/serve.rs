@@ -105,7 +105,12 @@ pub fn verdict(a: &Call, b: &Call) -> u8 {
 }
 
 pub fn pairs(a: &Call, b: &Call, alerting: u8) -> bool {
-    match verdict(a, b) {
+    pairs_at(verdict(a, b), alerting)
+}
+
+/// Whether two calls of a verdict pair under the alerting option.
+pub fn pairs_at(verdict: u8, alerting: u8) -> bool {
+    match verdict {
         1 => true,
         2 => alerting == 1,
         _ => false,

@@ -1,7 +1,7 @@
 //! Short ways to play events in the tests.
 #![allow(dead_code)]
 
-use engine::board::{Board, Call, LinkId, Reference};
+use engine::board::{Aux, Board, Call, CallState, LinkId, Reference};
 use engine::event::event;
 use engine::records;
 
@@ -67,6 +67,19 @@ impl Desk {
         let calls = self.board.rows.iter().filter_map(|row| row.call());
         calls.copied().find(|call| call.reference == Reference(reference))
     }
+}
+
+/// A call of each state, auxiliary state and direction, 32 in all, the direction changing fastest.
+pub fn calls() -> Vec<Call> {
+    let mut calls = Vec::new();
+    for state in [CallState::Proceeding, CallState::Delivered, CallState::Received, CallState::Active] {
+        for aux in [Aux::Idle, Aux::HoldRequest, Aux::Held, Aux::RetrieveRequest] {
+            for direction in [0, 1] {
+                calls.push(Call { reference: Reference(1), direction, state, aux, link: None });
+            }
+        }
+    }
+    calls
 }
 
 /// The component of the Reply that stands first in the octets written; empty if none.
