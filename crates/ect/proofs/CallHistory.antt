@@ -15,11 +15,11 @@ use Rattle.board.specs.declared.Board.{Board}
 use Rattle.board.specs.declared.Made.{Made}
 use Rattle.board.specs.Making.{fresh}
 use Rattle.rules.specs.Book.{freshBook}
-use Rattle.rules.specs.History.{Event, stepped, returns, boardAt, accepted}
-use Rattle.rules.specs.Replies.{NamedFirst, errorOctets, octets}
+use Rattle.rules.specs.History.{stepped, returns, boardAt, accepted}
+use Rattle.rules.specs.Replies.{errorOctets, octets}
 use Rattle.rules.specs.Step.{Outcome}
 use Rattle.rules.proofs.Errors.{unharmed, octets-error, untouched-step}
-use Rattle.rules.proofs.WholeHistory.{whole-history, any-order}
+use Rattle.rules.proofs.WholeHistory.{whole-history}
 use Rattle.ect.specs.CallHistory.{StepCall, CallHistory, lastBoard, numberReturned, written, eventOf, events}
 use Rattle.ect.specs.Contract.{OutcomeOf, answerCount}
 use Rattle.ect.specs.declared.Stepped.{Stepped}
@@ -58,39 +58,29 @@ met-at b [] post c h = h .0
 met-at b (d ∷ pre) post c h = met-at (d .returned .board) pre post c (h .1)
 
 module _ {b : Board} {c : StepCall} (h : StepContractMet b c) where
-  -- the event, with the order of the Drops that the call took
-  abbrev played : Event
-  played = record { octets = c .event; room = length (c .before); order = h .met .0 }
-
-  outcome : OutcomeOf (stepped b played) (c .before) (c .returned) (c .after)
-  outcome = h .met .1
-
-  number-is : numberReturned c ≡ stepped b (eventOf c) .returned
-  number-is = outcome .answer ∙ any-order (played .order) NamedFirst b (c .event) (length (c .before)) .0
-
-  board-is : c .returned .board ≡ stepped b (eventOf c) .board
-  board-is = outcome .board ∙ any-order (played .order) NamedFirst b (c .event) (length (c .before)) .1
+  pub outcome : OutcomeOf (stepped b (eventOf c)) (c .before) (c .returned) (c .after)
+  outcome = h .met
 
   error-leaves : T (errorOctets (written c)) → c .returned .board ≡ b
-  error-leaves e = outcome .board ∙ unharmed b played (octets-error _ (ap errorOctets (sym (replies-are outcome)) ∙ is-true _ e))
+  error-leaves e = outcome .board ∙ unharmed b (eventOf c) (octets-error _ (ap errorOctets (sym (replies-are outcome)) ∙ is-true _ e))
 
   refusal-leaves : eqb (numberReturned c) 0 ≡ false → (c .returned .board ≡ b) × (c .after ≡ c .before)
   unfolding octets
   refusal-leaves e =
-      let o = untouched-step b played (ap (λ (n : ℕ). eqb n 0) (sym (outcome .answer)) ∙ e) in
+      let o = untouched-step b (eventOf c) (ap (λ (n : ℕ). eqb n 0) (sym (outcome .answer)) ∙ e) in
       (outcome .board ∙ ap (λ (x : Outcome). x .board) o, outcome .buffer ∙ ap (λ (x : Outcome). octets (x .replies) ++ drop (length (octets (x .replies))) (c .before)) o)
 
 last-board : (b : Board) (calls : List StepCall) → Chain b calls → lastBoard b calls ≡ boardAt b (events calls)
 unfolding Chain lastBoard boardAt
 last-board b [] h = refl
-last-board b (c ∷ cs) h = last-board (c .returned .board) cs (h .1) ∙ ap (λ (x : Board). boardAt x (events cs)) (board-is (h .0))
+last-board b (c ∷ cs) h = last-board (c .returned .board) cs (h .1) ∙ ap (λ (x : Board). boardAt x (events cs)) (outcome (h .0) .board)
 
 returned-numbers : (b : Board) (calls : List StepCall) → Chain b calls → map numberReturned calls ≡ returns b (events calls)
 unfolding Chain returns
 returned-numbers b [] h = refl
 returned-numbers b (c ∷ cs) h =
-    ap₂ (λ (n : ℕ) (ns : List ℕ). n ∷ ns) (number-is (h .0))
-    (returned-numbers (c .returned .board) cs (h .1) ∙ ap (λ (x : Board). returns x (events cs)) (board-is (h .0)))
+    ap₂ (λ (n : ℕ) (ns : List ℕ). n ∷ ns) (outcome (h .0) .answer)
+    (returned-numbers (c .returned .board) cs (h .1) ∙ ap (λ (x : Board). returns x (events cs)) (outcome (h .0) .board))
 
 -- ---- the theorem
 

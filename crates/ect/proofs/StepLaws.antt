@@ -21,7 +21,7 @@ use Rattle.ect.specs.declared.Stepped.{Stepped}
 use Rattle.events.specs.declared.Refusal.{Refusal}
 use Rattle.rules.specs.Checks.{Refuse, Accept, Decision, returnedBy}
 use Rattle.events.specs.Refusals.{refusalNumber}
-use Rattle.rules.specs.Replies.{DropOrder, ReplyRecord, octets, NamedFirst}
+use Rattle.rules.specs.Replies.{ReplyRecord, octets}
 use Rattle.rules.specs.Step.{replies, step, stepTested, refused, Outcome, done, decision}
 use Rattle.events.specs.declared.Refusal.the-variants as refusal
 use Rattle.effects.specs.declared.Acceptance.{Acceptance}
@@ -29,14 +29,14 @@ use Rattle.effects.specs.declared.Effect.{Effect}
 
 -- ---- the outcome
 
-module _ (tested : Bool) (order : DropOrder) (b : Board) (os : List ℕ) (room : ℕ) where
-  small : room < 128 → stepTested tested order b os room ≡ refused (refusalNumber refusal.BufferTooSmall) b
+module _ (tested : Bool) (b : Board) (os : List ℕ) (room : ℕ) where
+  pub small : room < 128 → stepTested tested b os room ≡ refused (refusalNumber refusal.BufferTooSmall) b
   unfolding stepTested
-  small h = ap (λ (x : Bool). cond {A = Outcome} x (refused (refusalNumber refusal.BufferTooSmall) b) (cond tested (done order b (decision b os)) (refused (refusalNumber refusal.UnsoundBoard) b))) (lt-ltb room 128 h)
+  small h = ap (λ (x : Bool). cond {A = Outcome} x (refused (refusalNumber refusal.BufferTooSmall) b) (cond tested (done b (decision b os)) (refused (refusalNumber refusal.UnsoundBoard) b))) (lt-ltb room 128 h)
 
-  enough : 128 ≤ room → stepTested tested order b os room ≡ cond {A = Outcome} tested (done order b (decision b os)) (refused (refusalNumber refusal.UnsoundBoard) b)
+  pub enough : 128 ≤ room → stepTested tested b os room ≡ cond {A = Outcome} tested (done b (decision b os)) (refused (refusalNumber refusal.UnsoundBoard) b)
   unfolding stepTested
-  enough h = ap (λ (x : Bool). cond {A = Outcome} x (refused (refusalNumber refusal.BufferTooSmall) b) (cond tested (done order b (decision b os)) (refused (refusalNumber refusal.UnsoundBoard) b))) (le-ltb room 128 h)
+  enough h = ap (λ (x : Bool). cond {A = Outcome} x (refused (refusalNumber refusal.BufferTooSmall) b) (cond tested (done b (decision b os)) (refused (refusalNumber refusal.UnsoundBoard) b))) (le-ltb room 128 h)
 
 -- ---- what is shown of it
 
@@ -53,12 +53,12 @@ outcome-is {before = before} {r = r} {after = after} h k = subst⁻¹ (λ (x : O
 copied : {o : Out} (rs : List ReplyRecord) {b : List ℕ} (before : List ℕ) → o ≡ rendered rs → b ≡ frontWritten (written o) before → b ≡ frontWritten (octets rs) before
 copied rs before s e = e ∙ ap (λ (l : List ℕ). frontWritten l before) (ap written s ∙ rendered-written rs)
 
-written-len : {e : Effect} {b : Board} {d : Decision} → EffectOf e b d → e .out .len ≡ length (octets (replies NamedFirst (b .rows) d))
-written-len {b = b} {d = d} k = ap (λ (o : Out). o .len) (out-is k) ∙ rendered-len (replies NamedFirst (b .rows) d)
+written-len : {e : Effect} {b : Board} {d : Decision} → EffectOf e b d → e .out .len ≡ length (octets (replies (b .rows) d))
+written-len {b = b} {d = d} k = ap (λ (o : Out). o .len) (out-is k) ∙ rendered-len (replies (b .rows) d)
 
 -- the replies fit their array, whatever the board
 pub fits : {e : Effect} {b : Board} {d : Decision} → length (e .out .octets) ≡ 128 → EffectOf e b d → e .out .len ≤ 128
-fits {b = b} {d = d} l k = rendered-fits (replies NamedFirst (b .rows) d) (out-is k) l
+fits {b = b} {d = d} l k = rendered-fits (replies (b .rows) d) (out-is k) l
 
 -- the test handed in is the board's own
 pub own-test : (b : Board) (os before after : List ℕ) (r : Stepped) {tested : Bool} → tested ≡ sound b → StepsTested tested b os before r after → Steps b os before r after
@@ -67,17 +67,17 @@ own-test b os before after r e s = subst (λ (x : Bool). StepsTested x b os befo
 
 module _ (b : Board) (os before : List ℕ) where
   pub too-small : (tested : Bool) → length before < 128 → StepsTested tested b os before (stepped (Refused refusal.BufferTooSmall) b) before
-  too-small tested h = (NamedFirst, outcome-is (small tested NamedFirst b os (length before) h) (outcome-refused refusal.BufferTooSmall b before))
+  too-small tested h = outcome-is (small tested b os (length before) h) (outcome-refused refusal.BufferTooSmall b before)
 
   module _ (h : 128 ≤ length before) where
     pub not-sound : {tested : Bool} → tested ≡ false → StepsTested tested b os before (stepped (Refused refusal.UnsoundBoard) b) before
-    not-sound t = rw t (NamedFirst, outcome-is (enough false NamedFirst b os (length before) h) (outcome-refused refusal.UnsoundBoard b before))
+    not-sound t = rw t (outcome-is (enough false b os (length before) h) (outcome-refused refusal.UnsoundBoard b before))
 
     answer-by : (d : Decision) (n : ℕ) → answerNumber (answerTo (acceptanceOf d) n) ≡ returnedBy d
     answer-by (Refuse r) n = refl
     answer-by (Accept c w) n = refl
 
-    count-by : (d : Decision) (n : ℕ) → n ≡ length (octets (replies NamedFirst (b .rows) d)) → answerCount (answerTo (acceptanceOf d) n) ≡ length (octets (replies NamedFirst (b .rows) d))
+    count-by : (d : Decision) (n : ℕ) → n ≡ length (octets (replies (b .rows) d)) → answerCount (answerTo (acceptanceOf d) n) ≡ length (octets (replies (b .rows) d))
     unfolding octets replies
     count-by (Refuse r) n h = refl
     count-by (Accept c w) n h = h
@@ -87,13 +87,10 @@ module _ (b : Board) (os before : List ℕ) where
     step-done t k {n} m q v w =
         let d = decision b os in
         let u = v ∙ ap (λ (x : Acceptance). answerTo x n) (acceptance-is k) in
-        rw t (
-          NamedFirst,
-          outcome-is (enough true NamedFirst b os (length before) h)
-              (record {
-                answer = ap answerNumber u ∙ answer-by d n;
-                count = ap answerCount u ∙ count-by d n (m ∙ written-len k);
-                board = w ∙ board-is k;
-                buffer = copied (replies NamedFirst (b .rows) d) before (out-is k) q;
-              }),
-        )
+        rw t (outcome-is (enough true b os (length before) h)
+        (record {
+          answer = ap answerNumber u ∙ answer-by d n;
+          count = ap answerCount u ∙ count-by d n (m ∙ written-len k);
+          board = w ∙ board-is k;
+          buffer = copied (replies (b .rows) d) before (out-is k) q;
+        }))

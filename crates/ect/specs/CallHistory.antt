@@ -15,7 +15,7 @@ use Rattle.board.specs.Entries.{taken}
 use Rattle.board.specs.Soundness.{sound, sameLinkIds}
 use Rattle.rules.specs.Book.{Book}
 use Rattle.rules.specs.History.{Event, bookAt, bookReturns, history, accepted, Lives, EachSince, transferOf, onBoard, HasRow, Partners, Agree}
-use Rattle.rules.specs.Replies.{NamedFirst, errorOctets}
+use Rattle.rules.specs.Replies.{errorOctets}
 use Rattle.ect.specs.Contract.{answerNumber, answerCount}
 use Rattle.ect.specs.declared.Stepped.{Stepped}
 
@@ -39,10 +39,9 @@ numberReturned c = answerNumber (c .returned .answer)
 abbrev pub written : StepCall → List ℕ
 written c = take (answerCount (c .returned .answer)) (c .after)
 
--- the book is fed "each event's record and buffer length, nothing from the board or the answers"; the order of the Drops is no part of that,
--- and the book looks at none
+-- the book is fed "each event's record and buffer length, nothing from the board or the answers"
 abbrev pub eventOf : StepCall → Event
-eventOf c = record { octets = c .event; room = length (c .before); order = NamedFirst }
+eventOf c = record { octets = c .event; room = length (c .before) }
 
 abbrev pub events : List StepCall → List Event
 events calls = map eventOf calls

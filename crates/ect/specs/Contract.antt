@@ -7,7 +7,7 @@ use lib.ListN.{length}
 use Rattle.octets.specs.Buffers.{frontWritten}
 use Rattle.board.specs.declared.Board.{Board}
 use Rattle.events.specs.Refusals.{refusalNumber}
-use Rattle.rules.specs.Replies.{DropOrder, octets}
+use Rattle.rules.specs.Replies.{octets}
 use Rattle.rules.specs.Step.{Outcome, step, stepTested}
 use Rattle.ect.specs.declared.StepAnswer.{StepAnswer}
 use Rattle.ect.specs.declared.StepAnswer.the-variants.{Accepted, Refused}
@@ -30,10 +30,10 @@ pub record OutcomeOf (o : Outcome) (before : List ℕ) (r : Stepped) (after : Li
   pub board : r .board ≡ o .board
   pub buffer : after ≡ frontWritten (octets (o .replies)) before
 
--- the outcome is that of the rules, in one order of a transfer's two Drops: "Only the order of the two drop notices is left open."
+-- the outcome is that of the rules, with nothing left open: "exactly one octet string" (document 02, slip 3)
 abbrev pub Steps : Board → List ℕ → List ℕ → Stepped → List ℕ → Type 0
-Steps b event before r after = (order : DropOrder) × OutcomeOf (step order b event (length before)) before r after
+Steps b event before r after = OutcomeOf (step b event (length before)) before r after
 
 -- the same where the answer to the test of soundness is handed in
 abbrev pub StepsTested : Bool → Board → List ℕ → List ℕ → Stepped → List ℕ → Type 0
-StepsTested tested b event before r after = (order : DropOrder) × OutcomeOf (stepTested tested order b event (length before)) before r after
+StepsTested tested b event before r after = OutcomeOf (stepTested tested b event (length before)) before r after

@@ -41,7 +41,7 @@ use Rattle.octets.specs.declared.IntegerOctets.{IntegerOctets}
 use Rattle.octets.specs.declared.LinkId.{LinkId}
 use Rattle.rules.specs.Checks as checks
 use Rattle.rules.specs.Checks.{Refuse, Accept, accept, opening, Decision, changeOf, assignedBy, serviceDecision, decideOpen, decideProgress, mayProgress, decideHold, mayHold, decideRelease, decideAnswer, decideAlerting, decideFacility, decide}
-use Rattle.rules.specs.Replies.{Written, nothing, NamedFirst, numberAt, Tell, facility, transferredActive, answerTold, transferReplies}
+use Rattle.rules.specs.Replies.{Written, nothing, numberAt, Tell, facility, transferredActive, answerTold, transferReplies}
 use Rattle.rules.specs.Serving.{serve}
 use Rattle.rules.specs.Step.{replies, candidateBy, boardAfter, rowsAfter, candidateAfter, decision}
 use Rattle.board.specs.declared.Change.the-variants as change
@@ -68,22 +68,22 @@ opened-leg b r l d n h e = record { is = ap₂ (effect Accepted Enter) h e }
 
 -- an effect that enters no row, by what the code makes it of
 module _ {e : Effect} {o : Out} (b : Board) (w : Written) where
-  pub unchanged : e ≡ effect Accepted None emptyRow o → o ≡ rendered (w NamedFirst (numberAt (b .rows))) → EffectOf e b (Accept none w)
+  pub unchanged : e ≡ effect Accepted None emptyRow o → o ≡ rendered (w (numberAt (b .rows))) → EffectOf e b (Accept none w)
   unfolding replies
   unchanged h k = record { is = h ∙ ap (effect Accepted None emptyRow) k }
 
-  pub applied : (c : Change) → e ≡ effect Accepted (Apply c) emptyRow o → o ≡ rendered (w NamedFirst (numberAt (b .rows))) → EffectOf e b (accept c w)
+  pub applied : (c : Change) → e ≡ effect Accepted (Apply c) emptyRow o → o ≡ rendered (w (numberAt (b .rows))) → EffectOf e b (accept c w)
   unfolding replies
   applied c h k = record { is = h ∙ ap (effect Accepted (Apply c) emptyRow) k }
 
 -- what the code writes of an Answer and of a transfer
 module _ (b : Board) {o : Out} where
   pub answer-written : (l p : ℕ) {t : TellNumber} → t ≡ numberAt (b .rows) l → o ≡ rendered (Tell p facility transferredActive t 0 ∷ []) →
-      o ≡ rendered (answerTold (b .options) l p NamedFirst (numberAt (b .rows)))
+      o ≡ rendered (answerTold (b .options) l p (numberAt (b .rows)))
   answer-written l p n k = rw n at k
 
   pub transfer-written : (r : CallReference) (i : IntegerOctets) (p q : Party) {f g : FarParty} → Describes (b .rows) p f → Describes (b .rows) q g →
-      o ≡ rendered (transferRecords r i f g) → o ≡ rendered (transferReplies (b .options) (r .0) i p q NamedFirst (numberAt (b .rows)))
+      o ≡ rendered (transferRecords r i f g) → o ≡ rendered (transferReplies (b .options) (r .0) i p q (numberAt (b .rows)))
   transfer-written r i p q d e k = k ∙ ap rendered (rw (d .reference, d .leg, d .alerts, d .number, e .reference, e .leg, e .alerts, e .number))
 
 -- ---- what an effect says
@@ -104,7 +104,7 @@ module _ {e : Effect} {b : Board} {d : Decision} (k : EffectOf e b d) where
   unfolding boardAfter
   board-is = ap (λ (x : Effect). boardBy (x .change) (x .row) b) (k .is) ∙ change-board (changeOf d) b
 
-  pub out-is : e .out ≡ rendered (replies NamedFirst (b .rows) d)
+  pub out-is : e .out ≡ rendered (replies (b .rows) d)
   out-is = ap (λ (x : Effect). x .out) (k .is)
 
 -- ---- the board that is made

@@ -1,3 +1,4 @@
--- Laws of event records and of logs, for the proofs of this crate and of those above it.
+-- Laws of event records, of logs and of the numbers of refusals, for the proofs of this crate and of those above it.
 pub mod RecordLaws
 pub mod LogRecords
+pub mod RefusalNumbers

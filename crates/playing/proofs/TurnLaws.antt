@@ -5,11 +5,10 @@ use native.Mathlib.Nat.{zero-add}
 use borrow.Author.Tests.{le-leb}
 use mathlib.Core.Bool.{Bool, true, false}
 use mathlib.Core.Path.{_≡_, _∙_, ap, refl, sym, subst}
-use mathlib.Core.List.{List, [], _∷_, _++_, append-nil, append-assoc}
+use mathlib.Core.List.{List, [], _++_, append-nil, append-assoc}
 use lib.ListN.{length, take, drop, length-append, length-drop, drop-of-length-le}
 use lib.Seq.{drop-drop, take-at, drop-at}
 use Rattle.board.specs.declared.Board.{Board}
-use Rattle.rules.specs.Replies.{DropOrder}
 use Rattle.board.specs.Soundness.{sound}
 use Rattle.rules.specs.Step.{step, stepTested}
 use Rattle.rules.proofs.SoundKept.{sound-kept, as-many-rows}
@@ -21,14 +20,12 @@ use Rattle.playing.specs.Log.{outcomeLine, stopsReading, largestNumber}
 use Rattle.playing.specs.Playing.{frontLength, longestLine, Playing, pausing, withRecord, playing, pausedAt, Plays, PlaysRecordAs}
 use Rattle.playing.proofs.PlayingLaws.{plays-on, plays-stop}
 
--- what is written so far lies in the front of the buffer, and whatever orders come later, playing goes on behind it
+-- what is written so far lies in the front of the buffer, and playing goes on behind it
 pub record SoFar (b₀ : Board) (n₀ : ℕ) (piece : List ℕ) (last : Bool) (out₀ : List ℕ) (b : Board) (n read text : ℕ) (out : List ℕ) : Type 0 where
   pub written : List ℕ
-  pub orders : List DropOrder
   pub count : text ≡ length written
   pub buffer : out ≡ written ++ drop text out₀
-  pub goes-on : (later : List DropOrder) →
-      playing (orders ++ later) b₀ n₀ piece last (length out₀) ≡ withRecord read written (playing later b n (drop read piece) last (length out₀ - text))
+  pub goes-on : playing b₀ n₀ piece last (length out₀) ≡ withRecord read written (playing b n (drop read piece) last (length out₀ - text))
 
 none-in-front : (p : Playing) → withRecord 0 [] p ≡ p
 none-in-front p = ap (λ (r : ℕ). record { board = p .board; number = p .number; read = r; text = p .text; pause = p .pause }) (zero-add (p .read))
@@ -47,16 +44,13 @@ alone read written b n p =
 pub starts : (b : Board) (n : ℕ) (piece : List ℕ) (last : Bool) (out : List ℕ) → SoFar b n piece last out b n 0 0 out
 starts b n piece last out =
     let e : length out - 0 ≡ length out = omega arith in
-    record { written = []; orders = []; count = refl; buffer = refl; goes-on = λ later. rw e (sym (none-in-front (playing later b n piece last (length out)))) }
+    record { written = []; count = refl; buffer = refl; goes-on = rw e (sym (none-in-front (playing b n piece last (length out)))) }
 
 module _ {b₀ b : Board} {n₀ n read text : ℕ} {piece out₀ out : List ℕ} {last : Bool} (s : SoFar b₀ n₀ piece last out₀ b n read text out) where
-  at-end : playing (s .orders) b₀ n₀ piece last (length out₀) ≡ withRecord read (s .written) (playing [] b n (drop read piece) last (length out₀ - text))
-  at-end = ap (λ (os : List DropOrder). playing os b₀ n₀ piece last (length out₀)) (sym (append-nil (s .orders))) ∙ s .goes-on []
-
-  pub pauses : {p : Pause} → playing [] b n (drop read piece) last (length out₀ - text) ≡ pausing b n p → Plays b₀ n₀ piece last out₀ out (pausedAt b n read text p)
+  pub pauses : {p : Pause} → playing b n (drop read piece) last (length out₀ - text) ≡ pausing b n p → Plays b₀ n₀ piece last out₀ out (pausedAt b n read text p)
   pauses {p} e =
-      let q = at-end ∙ ap (withRecord read (s .written)) e ∙ alone read (s .written) b n p in
-      (s .orders, record { is = rw (q, s .count); buffer = rw (q, sym (s .count)) (s .buffer) })
+      let q = s .goes-on ∙ ap (withRecord read (s .written)) e ∙ alone read (s .written) b n p in
+      record { is = rw (q, s .count); buffer = rw (q, sym (s .count)) (s .buffer) }
 
 -- a line behind what is written: the buffer's part from there on holds it, and the rest is kept
 line-behind : (out₀ out written line part part′ : List ℕ) (text w : ℕ) → text ≡ length written → out ≡ written ++ drop text out₀ → text ≤ length out →
@@ -74,12 +68,12 @@ line-behind out₀ out written line part part′ text w c o h s l p =
 -- ---- a turn: the record in front is judged, and its line lies behind what is written
 
 module _ {b₀ b : Board} {n₀ n read text : ℕ} {piece out₀ out : List ℕ} {last : Bool} (s : SoFar b₀ n₀ piece last out₀ b n read text out)
-    (taken : ℕ) (event part part′ : List ℕ) (order : DropOrder) (r : PlayedRecord)
+    (taken : ℕ) (event part part′ : List ℕ) (r : PlayedRecord)
     (more : read < length piece) (within : text ≤ length out) (long : length out ≡ length out₀) (room : longestLine ≤ length out - text) (fewer : n < largestNumber)
     (front : taken ≡ frontLength last (drop read piece)) (some : 0 < taken) (is : event ≡ take taken (drop read piece)) (behind : part ≡ drop text out)
-    (t : PlaysRecordAs (step order b event 128) (n + 1) event part part′ r) where
+    (t : PlaysRecordAs (step b event 128) (n + 1) event part part′ r) where
   abbrev line : List ℕ
-  line = outcomeLine (n + 1) event (step order b event 128)
+  line = outcomeLine (n + 1) event (step b event 128)
 
   placed : (r .written ≡ length line) × (take text out ++ (part′ ++ drop (length out - text) (drop text out)) ≡ (s .written ++ line) ++ drop (text + r .written) out₀)
   placed = line-behind out₀ out (s .written) line part part′ text (r .written) (s .count) (s .buffer) within behind (omega (arith, t .short, room, length-drop text out, ap length behind)) (t .line)
@@ -98,46 +92,44 @@ module _ {b₀ b : Board} {n₀ n read text : ℕ} {piece out₀ out : List ℕ}
       SoFar b₀ n₀ piece last out₀ (r .board) (n + 1) (read + taken) (text + r .written) (take text out ++ (part′ ++ drop (length out - text) (drop text out)))
   turns-on f = record {
     written = s .written ++ line;
-    orders = s .orders ++ (order ∷ []);
     count = longer;
     buffer = placed .1;
-    goes-on = λ later.
-        ap (λ (os : List DropOrder). playing os b₀ n₀ piece last (length out₀)) (append-assoc (s .orders) (order ∷ []) later)
-        ∙ s .goes-on (order ∷ later)
-        ∙ in-front (playing later (r .board) (n + 1) (drop taken (drop read piece)) last (length out₀ - text - length line)) (on later)
+    goes-on =
+        s .goes-on
+        ∙ in-front (playing (r .board) (n + 1) (drop taken (drop read piece)) last (length out₀ - text - length line)) on
         ∙ rw (sym (drop-drop taken read piece), room-left);
   }
     where
       room-left : length out₀ - (text + r .written) ≡ length out₀ - text - length line
       room-left = omega (arith, placed .0)
 
-      on : (later : List DropOrder) → playing (order ∷ later) b n (drop read piece) last (length out₀ - text)
-          ≡ withRecord taken line (playing later (r .board) (n + 1) (drop taken (drop read piece)) last (length out₀ - text - length line))
-      on later =
+      on : playing b n (drop read piece) last (length out₀ - text)
+          ≡ withRecord taken line (playing (r .board) (n + 1) (drop taken (drop read piece)) last (length out₀ - text - length line))
+      on =
           rw (t .board, is, front)
-          (plays-on (order ∷ later) b n (drop read piece) last (length out₀ - text) left (omega (arith, room, long)) (omega (arith, front)) fewer (rw (sym front, sym is, sym (t .returned)) f))
+          (plays-on b n (drop read piece) last (length out₀ - text) left (omega (arith, room, long)) (omega (arith, front)) fewer (rw (sym front, sym is, sym (t .returned)) f))
 
   pub turns-last : stopsReading (r .returned) ≡ true →
       Plays b₀ n₀ piece last out₀ (take text out ++ (part′ ++ drop (length out - text) (drop text out))) (pausedAt (r .board) (n + 1) (read + taken) (text + r .written) End)
   turns-last f =
-      let q = s .goes-on (order ∷ []) ∙ in-front (pausing (r .board) (n + 1) End) stops ∙ alone (read + taken) (s .written ++ line) (r .board) (n + 1) End in
-      (s .orders ++ (order ∷ []), record { is = rw (q, longer); buffer = rw (q, sym longer) (placed .1) })
+      let q = s .goes-on ∙ in-front (pausing (r .board) (n + 1) End) stops ∙ alone (read + taken) (s .written ++ line) (r .board) (n + 1) End in
+      record { is = rw (q, longer); buffer = rw (q, sym longer) (placed .1) }
     where
-      stops : playing (order ∷ []) b n (drop read piece) last (length out₀ - text) ≡ withRecord taken line (pausing (r .board) (n + 1) End)
+      stops : playing b n (drop read piece) last (length out₀ - text) ≡ withRecord taken line (pausing (r .board) (n + 1) End)
       stops =
           rw (t .board, is, front)
-          (plays-stop (order ∷ []) b n (drop read piece) last (length out₀ - text) left (omega (arith, room, long)) (omega (arith, front)) fewer (rw (sym front, sym is, sym (t .returned)) f))
+          (plays-stop b n (drop read piece) last (length out₀ - text) left (omega (arith, room, long)) (omega (arith, front)) fewer (rw (sym front, sym is, sym (t .returned)) f))
 
 -- ---- the board's soundness is known from before the first record
 
-module _ {tested : Bool} (order : DropOrder) (b : Board) {n : ℕ} (event : List ℕ) {part part′ : List ℕ} {r : PlayedRecord} (e : tested ≡ sound b)
-    (t : PlaysRecordAs (stepTested tested order b event 128) n event part part′ r) where
-  pub tells-step : PlaysRecordAs (step order b event 128) n event part part′ r
+module _ {tested : Bool} (b : Board) {n : ℕ} (event : List ℕ) {part part′ : List ℕ} {r : PlayedRecord} (e : tested ≡ sound b)
+    (t : PlaysRecordAs (stepTested tested b event 128) n event part part′ r) where
+  pub tells-step : PlaysRecordAs (step b event 128) n event part part′ r
   unfolding step
-  tells-step = subst (λ (x : Bool). PlaysRecordAs (stepTested x order b event 128) n event part part′ r) e t
+  tells-step = subst (λ (x : Bool). PlaysRecordAs (stepTested x b event 128) n event part part′ r) e t
 
   pub stays-sound : length (b .rows) ≡ 64 → (tested ≡ sound (r .board)) × (length (r .board .rows) ≡ 64)
-  stays-sound l = (e ∙ sym (ap sound (tells-step .board) ∙ sound-kept order b event 128 l), rw (tells-step .board) (as-many-rows order b event 128 ∙ l))
+  stays-sound l = (e ∙ sym (ap sound (tells-step .board) ∙ sound-kept b event 128 l), rw (tells-step .board) (as-many-rows b event 128 ∙ l))
 
 -- a part by its start and its end
 pub part-of : (a k : ℕ) (s : List ℕ) → take (a + k - a) (drop a s) ≡ take k (drop a s)

@@ -14,11 +14,10 @@ use contract.Lifetimes.{Lfts}
 use Rattle.board.specs.declared.Board.{Board}
 use Rattle.events.specs.Records.{recordLength, frontRecord, behind, records}
 use Rattle.events.proofs.LogRecords.{no-records, first-record}
-use Rattle.rules.specs.Replies.{DropOrder}
 use Rattle.playing.specs.declared.Pause.{Pause}
 use Rattle.playing.specs.declared.Pause.the-variants.{MoreInput, FullOutput, End}
 use Rattle.playing.specs.declared.Played.{Played}
-use Rattle.playing.specs.Log.{orderNow, ordersLater, judged, stopsReading, largestNumber, LogEnd, ended, withText, recordsEnd, logEnd}
+use Rattle.playing.specs.Log.{judged, stopsReading, largestNumber, LogEnd, ended, withText, recordsEnd, logEnd}
 use Rattle.playing.specs.Playing.{frontLength, pieceRecord, pieceLine, longestLine, pauseAtEnd, Playing, pausing, withRecord, playFrom, playing}
 use Rattle.octets.proofs.Lent.{lent}
 use Rattle.playing.proofs.PlayingLaws.{some-taken}
@@ -26,12 +25,12 @@ use Rattle.playing.proofs.play.Reads as play-contract
 
 -- ---- a log, record by record
 
-log-record : (orders : List DropOrder) (b : Board) (n o : ℕ) (os : List ℕ) → logEnd orders b n (o ∷ os) ≡ recordsEnd orders b n (frontRecord (o ∷ os) ∷ records (behind (o ∷ os)))
-log-record orders b n o os = ap (recordsEnd orders b n) (first-record o os)
+log-record : (b : Board) (n o : ℕ) (os : List ℕ) → logEnd b n (o ∷ os) ≡ recordsEnd b n (frontRecord (o ∷ os) ∷ records (behind (o ∷ os)))
+log-record b n o os = ap (recordsEnd b n) (first-record o os)
 
-log-most : (orders : List DropOrder) (b : Board) (n o : ℕ) (os : List ℕ) → leb largestNumber n ≡ true → logEnd orders b n (o ∷ os) ≡ ended b n
+log-most : (b : Board) (n o : ℕ) (os : List ℕ) → leb largestNumber n ≡ true → logEnd b n (o ∷ os) ≡ ended b n
 unfolding recordsEnd
-log-most orders b n o os e = log-record orders b n o os ∙ rw e
+log-most b n o os e = log-record b n o os ∙ rw e
 
 two-texts : (x y : List ℕ) (e : LogEnd) → withText x (withText y e) ≡ withText (x ++ y) e
 two-texts x y e = ap (λ (t : List ℕ). record { text = t; board = e .board; number = e .number }) (sym (append-assoc x y (e .text)))
@@ -72,82 +71,81 @@ module _ (last : Bool) (o : ℕ) (os later : List ℕ) (z : Later last later) (h
 -- ---- a piece
 
 -- what the log leads to behind a pause: nothing more where playing ends
-abbrev pub afterPause : Pause → List DropOrder → Board → ℕ → List ℕ → LogEnd
-afterPause MoreInput orders b n left = logEnd orders b n left
-afterPause FullOutput orders b n left = logEnd orders b n left
-afterPause End orders b n left = ended b n
+abbrev pub afterPause : Pause → Board → ℕ → List ℕ → LogEnd
+afterPause MoreInput b n left = logEnd b n left
+afterPause FullOutput b n left = logEnd b n left
+afterPause End b n left = ended b n
 
--- the log leads to the text of the piece and then, whatever orders come later, to what it leads to behind the pause
+-- the log leads to the text of the piece and then to what it leads to behind the pause
 abbrev pub LeadsOn : Playing → Board → ℕ → List ℕ → List ℕ → Type 0
 LeadsOn p b n piece later =
-    (orders : List DropOrder)
-    × ((os : List DropOrder) → logEnd (orders ++ os) b n (piece ++ later) ≡ withText (p .text) (afterPause (p .pause) os (p .board) (p .number) (drop (p .read) piece ++ later)))
+    logEnd b n (piece ++ later) ≡ withText (p .text) (afterPause (p .pause) (p .board) (p .number) (drop (p .read) piece ++ later))
 
 at-end : (last : Bool) (b : Board) (n : ℕ) (later : List ℕ) → Later last later → LeadsOn (pausing b n (pauseAtEnd last)) b n [] later
 unfolding recordsEnd
-at-end true b n later z = ([], λ os. ap (logEnd os b n) (z refl) ∙ ap (recordsEnd os b n) no-records)
-at-end false b n later z = ([], λ os. refl)
+at-end true b n later z = ap (logEnd b n) (z refl) ∙ ap (recordsEnd b n) no-records
+at-end false b n later z = refl
 
-module _ (orders : List DropOrder) (b : Board) (n o : ℕ) (os later : List ℕ) (last : Bool) (z : Later last later) (some : eqb (frontLength last (o ∷ os)) 0 ≡ false) where
+module _ (b : Board) (n o : ℕ) (os later : List ℕ) (last : Bool) (z : Later last later) (some : eqb (frontLength last (o ∷ os)) 0 ≡ false) where
   abbrev line : List ℕ
-  line = pieceLine orders b n last (o ∷ os)
+  line = pieceLine b n last (o ∷ os)
 
   abbrev after : Board
-  after = judged orders b (pieceRecord last (o ∷ os)) .board
+  after = judged b (pieceRecord last (o ∷ os)) .board
 
   -- the record in front, by the words of the piece
-  in-front : (ds : List DropOrder) → leb largestNumber n ≡ false →
-      logEnd (orderNow orders ∷ ds) b n (o ∷ (os ++ later))
-      ≡ withText line (cond (stopsReading (judged orders b (pieceRecord last (o ∷ os)) .returned)) (ended after (n + 1)) (logEnd ds after (n + 1) (drop (frontLength last (o ∷ os)) (o ∷ os) ++ later)))
+  in-front : leb largestNumber n ≡ false →
+      logEnd b n (o ∷ (os ++ later))
+      ≡ withText line (cond (stopsReading (judged b (pieceRecord last (o ∷ os)) .returned)) (ended after (n + 1)) (logEnd after (n + 1) (drop (frontLength last (o ∷ os)) (o ∷ os) ++ later)))
   unfolding recordsEnd
-  in-front ds e =
-      log-record (orderNow orders ∷ ds) b n o (os ++ later)
+  in-front e =
+      log-record b n o (os ++ later)
       ∙ rw (e, sym (front-record last o os later z some), sym (front-behind last o os later z some))
 
   abbrev left : List ℕ
   left = drop (frontLength last (o ∷ os)) (o ∷ os)
 
-  by-test : (ds : List DropOrder) {s : Bool} → stopsReading (judged orders b (pieceRecord last (o ∷ os)) .returned) ≡ s →
-      withText line (cond (stopsReading (judged orders b (pieceRecord last (o ∷ os)) .returned)) (ended after (n + 1)) (logEnd ds after (n + 1) (left ++ later)))
-      ≡ withText line (cond s (ended after (n + 1)) (logEnd ds after (n + 1) (left ++ later)))
-  by-test ds e = ap (λ (x : Bool). withText line (cond x (ended after (n + 1)) (logEnd ds after (n + 1) (left ++ later)))) e
+  by-test : {s : Bool} → stopsReading (judged b (pieceRecord last (o ∷ os)) .returned) ≡ s →
+      withText line (cond (stopsReading (judged b (pieceRecord last (o ∷ os)) .returned)) (ended after (n + 1)) (logEnd after (n + 1) (left ++ later)))
+      ≡ withText line (cond s (ended after (n + 1)) (logEnd after (n + 1) (left ++ later)))
+  by-test e = ap (λ (x : Bool). withText line (cond x (ended after (n + 1)) (logEnd after (n + 1) (left ++ later)))) e
 
-  stops-there : leb largestNumber n ≡ false → stopsReading (judged orders b (pieceRecord last (o ∷ os)) .returned) ≡ true →
+  stops-there : leb largestNumber n ≡ false → stopsReading (judged b (pieceRecord last (o ∷ os)) .returned) ≡ true →
       LeadsOn (withRecord (frontLength last (o ∷ os)) line (pausing after (n + 1) End)) b n (o ∷ os) later
-  stops-there e s = (orderNow orders ∷ [], λ ds. in-front ds e ∙ by-test ds s ∙ ap (λ (t : List ℕ). withText t (ended after (n + 1))) (sym (append-nil line)))
+  stops-there e s = in-front e ∙ by-test s ∙ ap (λ (t : List ℕ). withText t (ended after (n + 1))) (sym (append-nil line))
 
-  goes-on : (p : Playing) → leb largestNumber n ≡ false → stopsReading (judged orders b (pieceRecord last (o ∷ os)) .returned) ≡ false →
+  goes-on : (p : Playing) → leb largestNumber n ≡ false → stopsReading (judged b (pieceRecord last (o ∷ os)) .returned) ≡ false →
       LeadsOn p after (n + 1) left later → LeadsOn (withRecord (frontLength last (o ∷ os)) line p) b n (o ∷ os) later
-  goes-on p e s f = (orderNow orders ∷ f .0, λ ds. in-front (f .0 ++ ds) e ∙ by-test (f .0 ++ ds) s ∙ ap (withText line) (f .1 ds) ∙ together ds)
+  goes-on p e s f = in-front e ∙ by-test s ∙ ap (withText line) f ∙ together
     where
-      together : (ds : List DropOrder) → withText line (withText (p .text) (afterPause (p .pause) ds (p .board) (p .number) (drop (p .read) left ++ later)))
-          ≡ withText (line ++ p .text) (afterPause (p .pause) ds (p .board) (p .number) (drop (frontLength last (o ∷ os) + p .read) (o ∷ os) ++ later))
-      together ds =
-          ap (λ (l : List ℕ). withText line (withText (p .text) (afterPause (p .pause) ds (p .board) (p .number) (l ++ later)))) (drop-drop (p .read) (frontLength last (o ∷ os)) (o ∷ os))
-          ∙ two-texts line (p .text) (afterPause (p .pause) ds (p .board) (p .number) (drop (frontLength last (o ∷ os) + p .read) (o ∷ os) ++ later))
+      together : withText line (withText (p .text) (afterPause (p .pause) (p .board) (p .number) (drop (p .read) left ++ later)))
+          ≡ withText (line ++ p .text) (afterPause (p .pause) (p .board) (p .number) (drop (frontLength last (o ∷ os) + p .read) (o ∷ os) ++ later))
+      together =
+          ap (λ (l : List ℕ). withText line (withText (p .text) (afterPause (p .pause) (p .board) (p .number) (l ++ later)))) (drop-drop (p .read) (frontLength last (o ∷ os)) (o ∷ os))
+          ∙ two-texts line (p .text) (afterPause (p .pause) (p .board) (p .number) (drop (frontLength last (o ∷ os) + p .read) (o ∷ os) ++ later))
 
-piece-of-log : (k : ℕ) (orders : List DropOrder) (b : Board) (n : ℕ) (piece later : List ℕ) (last : Bool) (room : ℕ) → length piece ≤ k → Later last later →
-    LeadsOn (playFrom k orders b n piece last room) b n piece later
+piece-of-log : (k : ℕ) (b : Board) (n : ℕ) (piece later : List ℕ) (last : Bool) (room : ℕ) → length piece ≤ k → Later last later →
+    LeadsOn (playFrom k b n piece last room) b n piece later
 unfolding playFrom
-piece-of-log zero orders b n [] later last room h z = at-end last b n later z
-piece-of-log zero orders b n (o ∷ os) later last room h z = absurd (omega (arith, h))
-piece-of-log (suc k) orders b n [] later last room h z = at-end last b n later z
-piece-of-log (suc k) orders b n (o ∷ os) later last room h z =
-    go (ltb room longestLine) (eqb (frontLength last (o ∷ os)) 0) (leb largestNumber n) (stopsReading (judged orders b (pieceRecord last (o ∷ os)) .returned)) refl refl refl
-    (λ t. piece-of-log k (ordersLater orders) (judged orders b (pieceRecord last (o ∷ os)) .board) (n + 1) (drop (frontLength last (o ∷ os)) (o ∷ os)) later last (room - length (pieceLine orders b n last (o ∷ os))) (omega (arith, h, t)) z)
+piece-of-log zero b n [] later last room h z = at-end last b n later z
+piece-of-log zero b n (o ∷ os) later last room h z = absurd (omega (arith, h))
+piece-of-log (suc k) b n [] later last room h z = at-end last b n later z
+piece-of-log (suc k) b n (o ∷ os) later last room h z =
+    go (ltb room longestLine) (eqb (frontLength last (o ∷ os)) 0) (leb largestNumber n) (stopsReading (judged b (pieceRecord last (o ∷ os)) .returned)) refl refl refl
+    (λ t. piece-of-log k (judged b (pieceRecord last (o ∷ os)) .board) (n + 1) (drop (frontLength last (o ∷ os)) (o ∷ os)) later last (room - length (pieceLine b n last (o ∷ os))) (omega (arith, h, t)) z)
   where
     next : Playing
-    next = playFrom k (ordersLater orders) (judged orders b (pieceRecord last (o ∷ os)) .board) (n + 1) (drop (frontLength last (o ∷ os)) (o ∷ os)) last (room - length (pieceLine orders b n last (o ∷ os)))
+    next = playFrom k (judged b (pieceRecord last (o ∷ os)) .board) (n + 1) (drop (frontLength last (o ∷ os)) (o ∷ os)) last (room - length (pieceLine b n last (o ∷ os)))
 
-    go : (w x y s : Bool) → eqb (frontLength last (o ∷ os)) 0 ≡ x → leb largestNumber n ≡ y → stopsReading (judged orders b (pieceRecord last (o ∷ os)) .returned) ≡ s →
-        (length (drop (frontLength last (o ∷ os)) (o ∷ os)) ≤ length os → LeadsOn (playFrom k (ordersLater orders) (judged orders b (pieceRecord last (o ∷ os)) .board) (n + 1) (drop (frontLength last (o ∷ os)) (o ∷ os)) last (room - length (pieceLine orders b n last (o ∷ os)))) (judged orders b (pieceRecord last (o ∷ os)) .board) (n + 1) (drop (frontLength last (o ∷ os)) (o ∷ os)) later) →
+    go : (w x y s : Bool) → eqb (frontLength last (o ∷ os)) 0 ≡ x → leb largestNumber n ≡ y → stopsReading (judged b (pieceRecord last (o ∷ os)) .returned) ≡ s →
+        (length (drop (frontLength last (o ∷ os)) (o ∷ os)) ≤ length os → LeadsOn (playFrom k (judged b (pieceRecord last (o ∷ os)) .board) (n + 1) (drop (frontLength last (o ∷ os)) (o ∷ os)) last (room - length (pieceLine b n last (o ∷ os)))) (judged b (pieceRecord last (o ∷ os)) .board) (n + 1) (drop (frontLength last (o ∷ os)) (o ∷ os)) later) →
         LeadsOn (cond {A = Playing} w (pausing b n FullOutput) (cond x (pausing b n MoreInput) (cond y (pausing b n End)
-        (withRecord (frontLength last (o ∷ os)) (pieceLine orders b n last (o ∷ os)) (cond s (pausing (judged orders b (pieceRecord last (o ∷ os)) .board) (n + 1) End) next))))) b n (o ∷ os) later
-    go true x y s ex ey es f = ([], λ ds. refl)
-    go false true y s ex ey es f = ([], λ ds. refl)
-    go false false true s ex ey es f = ([], λ ds. log-most ds b n o (os ++ later) ey)
-    go false false false true ex ey es f = stops-there orders b n o os later last z ex ey es
-    go false false false false ex ey es f = goes-on orders b n o os later last z ex next ey es (f (some-taken last o os ex))
+        (withRecord (frontLength last (o ∷ os)) (pieceLine b n last (o ∷ os)) (cond s (pausing (judged b (pieceRecord last (o ∷ os)) .board) (n + 1) End) next))))) b n (o ∷ os) later
+    go true x y s ex ey es f = refl
+    go false true y s ex ey es f = refl
+    go false false true s ex ey es f = log-most b n o (os ++ later) ey
+    go false false false true ex ey es f = stops-there b n o os later last z ex ey es
+    go false false false false ex ey es f = goes-on b n o os later last z ex next ey es (f (some-taken last o os ex))
 
 -- ---- the calls
 
@@ -170,30 +168,25 @@ pub data Calls : Board → ℕ → List ℕ → List ℕ → Board → ℕ → T
       Calls b n (piece ++ later) (take (r .written) after ++ text) c m
 
 module _ {b : Board} {n : ℕ} {piece later before after : List ℕ} {last : Bool} {r : Played} (z : Later last later) (h : PlayContractMet b n piece last before after r) where
-  text-is : take (r .written) after ≡ playing (h .met .0) b n piece last (length before) .text
+  text-is : take (r .written) after ≡ playing b n piece last (length before) .text
   text-is =
-      let p = playing (h .met .0) b n piece last (length before) in
-      rw (h .met .1 .is, h .met .1 .buffer) (take-at (p .text) (drop (length (p .text)) before) (length (p .text)) refl)
+      let p = playing b n piece last (length before) in
+      rw (h .met .is, h .met .buffer) (take-at (p .text) (drop (length (p .text)) before) (length (p .text)) refl)
 
   -- the log leads to the text of the call, and then to what it leads to behind the call's pause
-  leads-on : (orders : List DropOrder)
-      × ((os : List DropOrder) → logEnd (orders ++ os) b n (piece ++ later) ≡ withText (take (r .written) after) (afterPause (r .pause) os (r .board) (r .number) (drop (r .read) piece ++ later)))
+  leads-on : logEnd b n (piece ++ later) ≡ withText (take (r .written) after) (afterPause (r .pause) (r .board) (r .number) (drop (r .read) piece ++ later))
   leads-on =
-      let f = piece-of-log (length piece) (h .met .0) b n piece later last (length before) (omega arith) z in
-      (f .0, λ os. f .1 os ∙ rw (text-is, h .met .1 .is))
+      piece-of-log (length piece) b n piece later last (length before) (omega arith) z ∙ rw (text-is, h .met .is)
 
-not-ended : (p : Pause) (os : List DropOrder) (b : Board) (n : ℕ) (left : List ℕ) → (p ≡ End → ⊥) → afterPause p os b n left ≡ logEnd os b n left
-not-ended MoreInput os b n left h = refl
-not-ended FullOutput os b n left h = refl
-not-ended End os b n left h = absurd (h refl)
+not-ended : (p : Pause) (b : Board) (n : ℕ) (left : List ℕ) → (p ≡ End → ⊥) → afterPause p b n left ≡ logEnd b n left
+not-ended MoreInput b n left h = refl
+not-ended FullOutput b n left h = refl
+not-ended End b n left h = absurd (h refl)
 
 -- whatever the pieces and the buffers, the calls give the text of the log, and leave its board and the number of its last record
 pub pieces-give-the-log : {b c : Board} {n m : ℕ} {log text : List ℕ} → Calls b n log text c m →
-    (orders : List DropOrder) × (logEnd orders b n log ≡ record { text = text; board = c; number = m })
+    logEnd b n log ≡ record { text = text; board = c; number = m }
 pieces-give-the-log (last-call b n piece later last before after r z h e) =
-    let f = leads-on z h in
-    (f .0 ++ [], f .1 [] ∙ rw (e, append-nil (take (r .written) after)))
+    leads-on z h ∙ rw (e, append-nil (take (r .written) after))
 pieces-give-the-log (next-call b n piece later last before after r text c m z h e k) =
-    let f = leads-on z h in
-    let g = pieces-give-the-log k in
-    (f .0 ++ g .0, f .1 (g .0) ∙ ap (withText (take (r .written) after)) (not-ended (r .pause) (g .0) (r .board) (r .number) (drop (r .read) piece ++ later) e ∙ g .1))
+    leads-on z h ∙ ap (withText (take (r .written) after)) (not-ended (r .pause) (r .board) (r .number) (drop (r .read) piece ++ later) e ∙ pieces-give-the-log k)

@@ -6,7 +6,7 @@ use lib.Dec.{eqb, leb}
 use lib.ListN.{getD}
 use Rattle.board.specs.declared.Board.{Board}
 use Rattle.events.specs.Records.{records}
-use Rattle.rules.specs.Replies.{DropOrder, NamedFirst, octets}
+use Rattle.rules.specs.Replies.{octets}
 use Rattle.rules.specs.Step.{Outcome, step}
 use Rattle.log_text.specs.Lines.{recordLine}
 
@@ -14,18 +14,9 @@ use Rattle.log_text.specs.Lines.{recordLine}
 abbrev pub outcomeLine : ℕ → List ℕ → Outcome → List ℕ
 outcomeLine number event o = recordLine number (getD event 0 0) (o .returned) (octets (o .replies))
 
--- the order of a transfer's two Drops is left open: the orders of a log, one for each record, and behind them the named call's Drop first
-abbrev pub orderNow : List DropOrder → DropOrder
-orderNow [] = NamedFirst
-orderNow (o ∷ os) = o
-
-abbrev pub ordersLater : List DropOrder → List DropOrder
-ordersLater [] = []
-ordersLater (o ∷ os) = os
-
 -- a record on a board, with a reply buffer of 128 octets
-abbrev pub judged : List DropOrder → Board → List ℕ → Outcome
-judged orders b event = step (orderNow orders) b event 128
+abbrev pub judged : Board → List ℕ → Outcome
+judged b event = step b event 128
 
 -- "an unknown kind or cut record gets its line (returned 4 or 3) and stops reading"
 abbrev pub stopsReading : ℕ → Bool
@@ -49,14 +40,14 @@ abbrev pub withText : List ℕ → LogEnd → LogEnd
 withText text e = record { text = text ++ e .text; board = e .board; number = e .number }
 
 -- what records lead to on the board b, with n records before
-unfoldable pub recordsEnd : List DropOrder → Board → ℕ → List (List ℕ) → LogEnd
-recordsEnd orders b n [] = ended b n
-recordsEnd orders b n (event ∷ later) =
+unfoldable pub recordsEnd : Board → ℕ → List (List ℕ) → LogEnd
+recordsEnd b n [] = ended b n
+recordsEnd b n (event ∷ later) =
     cond (leb largestNumber n) (ended b n)
-    (withText (outcomeLine (n + 1) event (judged orders b event))
-    (cond (stopsReading (judged orders b event .returned))
-    (ended (judged orders b event .board) (n + 1))
-    (recordsEnd (ordersLater orders) (judged orders b event .board) (n + 1) later)))
+    (withText (outcomeLine (n + 1) event (judged b event))
+    (cond (stopsReading (judged b event .returned))
+    (ended (judged b event .board) (n + 1))
+    (recordsEnd (judged b event .board) (n + 1) later)))
 
-abbrev pub logEnd : List DropOrder → Board → ℕ → List ℕ → LogEnd
-logEnd orders b n log = recordsEnd orders b n (records log)
+abbrev pub logEnd : Board → ℕ → List ℕ → LogEnd
+logEnd b n log = recordsEnd b n (records log)

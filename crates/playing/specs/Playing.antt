@@ -7,7 +7,6 @@ use lib.Dec.{eqb, leb, ltb}
 use lib.ListN.{length, take, drop, getD}
 use Rattle.board.specs.declared.Board.{Board}
 use Rattle.events.specs.Records.{recordLength}
-use Rattle.rules.specs.Replies.{DropOrder}
 use Rattle.rules.specs.Step.{Outcome, stepTested}
 use Rattle.octets.specs.Buffers.{frontWritten}
 use Rattle.log_text.specs.Writing.{Fitted}
@@ -15,7 +14,7 @@ use Rattle.playing.specs.declared.PlayedRecord.{PlayedRecord}
 use Rattle.playing.specs.declared.Pause.{Pause}
 use Rattle.playing.specs.declared.Pause.the-variants.{MoreInput, FullOutput, End}
 use Rattle.playing.specs.declared.Played.{Played}
-use Rattle.playing.specs.Log.{outcomeLine, ordersLater, judged, stopsReading, largestNumber}
+use Rattle.playing.specs.Log.{outcomeLine, judged, stopsReading, largestNumber}
 
 -- ---- a piece
 
@@ -27,8 +26,8 @@ frontLength last piece = cond (leb (recordLength (getD piece 0 0)) (length piece
 abbrev pub pieceRecord : Bool → List ℕ → List ℕ
 pieceRecord last piece = take (frontLength last piece) piece
 
-abbrev pub pieceLine : List DropOrder → Board → ℕ → Bool → List ℕ → List ℕ
-pieceLine orders b n last piece = outcomeLine (n + 1) (pieceRecord last piece) (judged orders b (pieceRecord last piece))
+abbrev pub pieceLine : Board → ℕ → Bool → List ℕ → List ℕ
+pieceLine b n last piece = outcomeLine (n + 1) (pieceRecord last piece) (judged b (pieceRecord last piece))
 
 -- no line of a record is longer
 abbrev pub longestLine : ℕ
@@ -56,22 +55,22 @@ abbrev pub withRecord : ℕ → List ℕ → Playing → Playing
 withRecord n line p = record { board = p .board; number = p .number; read = n + p .read; text = line ++ p .text; pause = p .pause }
 
 -- on the board b, with n records before, into a buffer of `room` octets: at most so many records
-unfoldable pub playFrom : ℕ → List DropOrder → Board → ℕ → List ℕ → Bool → ℕ → Playing
-playFrom zero orders b n piece last room = pausing b n (pauseAtEnd last)
-playFrom (suc k) orders b n [] last room = pausing b n (pauseAtEnd last)
-playFrom (suc k) orders b n (o ∷ os) last room =
+unfoldable pub playFrom : ℕ → Board → ℕ → List ℕ → Bool → ℕ → Playing
+playFrom zero b n piece last room = pausing b n (pauseAtEnd last)
+playFrom (suc k) b n [] last room = pausing b n (pauseAtEnd last)
+playFrom (suc k) b n (o ∷ os) last room =
     cond (ltb room longestLine) (pausing b n FullOutput)
     (cond (eqb (frontLength last (o ∷ os)) 0) (pausing b n MoreInput)
     (cond (leb largestNumber n) (pausing b n End)
-    (withRecord (frontLength last (o ∷ os)) (pieceLine orders b n last (o ∷ os))
-    (cond (stopsReading (judged orders b (pieceRecord last (o ∷ os)) .returned))
-    (pausing (judged orders b (pieceRecord last (o ∷ os)) .board) (n + 1) End)
-    (playFrom k (ordersLater orders) (judged orders b (pieceRecord last (o ∷ os)) .board) (n + 1)
-    (drop (frontLength last (o ∷ os)) (o ∷ os)) last (room - length (pieceLine orders b n last (o ∷ os))))))))
+    (withRecord (frontLength last (o ∷ os)) (pieceLine b n last (o ∷ os))
+    (cond (stopsReading (judged b (pieceRecord last (o ∷ os)) .returned))
+    (pausing (judged b (pieceRecord last (o ∷ os)) .board) (n + 1) End)
+    (playFrom k (judged b (pieceRecord last (o ∷ os)) .board) (n + 1)
+    (drop (frontLength last (o ∷ os)) (o ∷ os)) last (room - length (pieceLine b n last (o ∷ os))))))))
 
 -- a piece has no more records than octets
-abbrev pub playing : List DropOrder → Board → ℕ → List ℕ → Bool → ℕ → Playing
-playing orders b n piece last room = playFrom (length piece) orders b n piece last room
+abbrev pub playing : Board → ℕ → List ℕ → Bool → ℕ → Playing
+playing b n piece last room = playFrom (length piece) b n piece last room
 
 -- ---- what the code returns
 
@@ -83,9 +82,8 @@ pub record PlaysAs (p : Playing) (before after : List ℕ) (r : Played) : Type 0
   pub is : r ≡ pausedAt (p .board) (p .number) (p .read) (length (p .text)) (p .pause)
   pub buffer : after ≡ frontWritten (p .text) before
 
--- in one order of the Drops for each record
 abbrev pub Plays : Board → ℕ → List ℕ → Bool → List ℕ → List ℕ → Played → Type 0
-Plays b n piece last before after r = (orders : List DropOrder) × PlaysAs (playing orders b n piece last (length before)) before after r
+Plays b n piece last before after r = PlaysAs (playing b n piece last (length before)) before after r
 
 -- the board, the number returned and the line are those of an outcome; the line is short, so that a buffer of 512 octets has room for it
 pub record PlaysRecordAs (o : Outcome) (number : ℕ) (event before after : List ℕ) (r : PlayedRecord) : Type 0 where
@@ -94,6 +92,6 @@ pub record PlaysRecordAs (o : Outcome) (number : ℕ) (event before after : List
   pub line : Fitted (outcomeLine number event o) before after (r .written)
   pub short : length (outcomeLine number event o) ≤ longestLine
 
--- the outcome is that of the rules at a buffer of 128 octets, in one order of a transfer's two Drops
+-- the outcome is that of the rules at a buffer of 128 octets
 abbrev pub PlaysRecord : Bool → Board → ℕ → List ℕ → List ℕ → List ℕ → PlayedRecord → Type 0
-PlaysRecord tested b number event before after r = (order : DropOrder) × PlaysRecordAs (stepTested tested order b event 128) number event before after r
+PlaysRecord tested b number event before after r = PlaysRecordAs (stepTested tested b event 128) number event before after r

@@ -8,7 +8,7 @@ use Rattle.octets.specs.declared.CallReference.{CallReference}
 use Rattle.octets.specs.declared.IntegerOctets.{IntegerOctets}
 use Rattle.component.specs.declared.Answer.{Answer}
 use Rattle.component.specs.declared.Answer.the-variants as answer
-use Rattle.rules.specs.Replies.{Reply, Tell, Drop, Gone, NamedFirst, octets}
+use Rattle.rules.specs.Replies.{Reply, Tell, Drop, Gone, octets}
 use Rattle.rules.proofs.Lengths.{reply-length, one-length, tells-length, transfer-length}
 use Rattle.replies.specs.declared.FarParty.{FarParty}
 use Rattle.replies.specs.Code.Writing.{transferTells, transferRecords}
@@ -30,5 +30,5 @@ gone-room l = refl
 
 pub transfer-room : (r : CallReference) (i : IntegerOctets) (f g : FarParty) → length (f .number .digits) ≡ 15 → length (g .number .digits) ≡ 15 → length (octets (transferRecords r i f g)) ≡ 92
 transfer-room r i f g h k =
-    transfer-length NamedFirst (r .0) (answer.Result i) (f .reference .0) (g .reference .0) (transferTells f g)
+    transfer-length (r .0) (answer.Result i) (f .reference .0) (g .reference .0) (transferTells f g)
     (tells-length (f .leg) (g .leg) (f .alerts) (g .alerts) (g .number) (f .number) k h)

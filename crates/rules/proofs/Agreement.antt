@@ -129,10 +129,10 @@ pub next : {b : Board} {k : Book} → Together b k → (e : Event) → Next b k 
 unfolding step stepTested bookDecision
 next {b} {k} t e =
     subst (λ (d : Decision). Next b k (stepped b e) (cond (ltb (e .room) 128) (Refuse refusal.BufferTooSmall) d)) (same-decision t (e .octets))
-    (subst⁻¹ (λ (y : Bool). Next b k (cond (ltb (e .room) 128) (refused (refusalNumber refusal.BufferTooSmall) b) (cond y (done (e .order) b (decision b (e .octets))) (refused (refusalNumber refusal.UnsoundBoard) b))) (cond (ltb (e .room) 128) (Refuse refusal.BufferTooSmall) (decision b (e .octets))))
+    (subst⁻¹ (λ (y : Bool). Next b k (cond (ltb (e .room) 128) (refused (refusalNumber refusal.BufferTooSmall) b) (cond y (done b (decision b (e .octets))) (refused (refusalNumber refusal.UnsoundBoard) b))) (cond (ltb (e .room) 128) (Refuse refusal.BufferTooSmall) (decision b (e .octets))))
     (sound-together t) (go (ltb (e .room) 128)))
   where
-    go : (x : Bool) → Next b k (cond x (refused (refusalNumber refusal.BufferTooSmall) b) (done (e .order) b (decision b (e .octets)))) (cond x (Refuse refusal.BufferTooSmall) (decision b (e .octets)))
+    go : (x : Bool) → Next b k (cond x (refused (refusalNumber refusal.BufferTooSmall) b) (done b (decision b (e .octets)))) (cond x (Refuse refusal.BufferTooSmall) (decision b (e .octets)))
     go true = record { same = refl; together = refused-together t }
     go false = record { same = refl; together = after-together t (e .octets) }
 

@@ -22,7 +22,7 @@ use Rattle.component.specs.Answers.{answerOctets, filled}
 use Rattle.rules.specs.Checks.{Decision, Refuse, Accept, returnedBy}
 use Rattle.events.specs.Refusals.{refusalNumber}
 use Rattle.rules.specs.History.{Event, stepped}
-use Rattle.rules.specs.Replies.{told, TellNumber, errorRecord, Drop, DropOrder, tells, numberAt, drops, NamedFirst, OtherFirst, octets, errorTag, Reply, ReplyRecord, errorOctets, Tell, Gone, transferReplies, releaseReplies}
+use Rattle.rules.specs.Replies.{told, TellNumber, errorRecord, Drop, numberAt, octets, errorTag, Reply, ReplyRecord, errorOctets, Tell, Gone, transferReplies, releaseReplies}
 use Rattle.rules.proofs.Decided.{Decided, refuses, changes-nothing, opens-leg, sets-state, sets-auxiliary, releases, assigns-link-id, transfers, ends-alerting, decided}
 use Rattle.rules.specs.Step.{boardAfter, rowsAfter, candidateAfter, done, replies, refused, step, stepTested, Outcome, decision}
 use Rattle.octets.proofs.Lists.{true-not-false, neither, or-left}
@@ -37,64 +37,57 @@ told-well l true false n = refl
 told-well l false true n = refl
 told-well l false false n = refl
 
-transfer-well : (o : Options) (r : ℕ) (i : IntegerOctets) (p q : Party) (order : DropOrder) (numbers : ℕ → TellNumber) → any errorRecord (transferReplies o r i p q order numbers) ≡ false
+transfer-well : (o : Options) (r : ℕ) (i : IntegerOctets) (p q : Party) (numbers : ℕ → TellNumber) → any errorRecord (transferReplies o r i p q numbers) ≡ false
 unfolding answerOctets
-transfer-well o r i p q order numbers = fine order
-  where
-    last : any errorRecord (tells o numbers p q) ≡ false
-    last =
-        neither (told-well (p .leg) (delivered (p .call)) (delivered (q .call)) (numbers (q .leg)))
-        (neither (told-well (q .leg) (delivered (q .call)) (delivered (p .call)) (numbers (p .leg))) refl)
+transfer-well o r i p q numbers =
+    neither (told-well (p .leg) (delivered (p .call)) (delivered (q .call)) (numbers (q .leg)))
+    (neither (told-well (q .leg) (delivered (q .call)) (delivered (p .call)) (numbers (p .leg))) refl)
 
-    fine : (order : DropOrder) → any errorRecord (drops order (p .call .reference .0) (q .call .reference .0) ++ tells o numbers p q) ≡ false
-    fine NamedFirst = last
-    fine OtherFirst = last
-
-release-well : (t : Connection) (order : DropOrder) (numbers : ℕ → TellNumber) → any errorRecord (releaseReplies t order numbers) ≡ false
-release-well (WithUser c) order numbers = refl
-release-well (WithPartner p a) order numbers = refl
+release-well : (t : Connection) (numbers : ℕ → TellNumber) → any errorRecord (releaseReplies t numbers) ≡ false
+release-well (WithUser c) numbers = refl
+release-well (WithPartner p a) numbers = refl
 
 -- what is decided and changes the board writes no error
-well-by : (order : DropOrder) (b : Board) {opt : Options} {z : ℤ} {w : Bool} {es : List Entry} {q : Request} {d : Decision} → Decided opt z w es q d →
-    any errorRecord (replies order (b .rows) d) ≡ true → boardAfter d b ≡ b
+well-by : (b : Board) {opt : Options} {z : ℤ} {w : Bool} {es : List Entry} {q : Request} {d : Decision} → Decided opt z w es q d →
+    any errorRecord (replies (b .rows) d) ≡ true → boardAfter d b ≡ b
 unfolding replies boardAfter rowsAfter candidateAfter answerOctets
-well-by order b (refuses c) h = refl
-well-by order b (changes-nothing f g k) h = refl
-well-by order b (opens-leg e f g) h = absurd (true-not-false h refl)
-well-by order b (sets-state e k) h = absurd (true-not-false h refl)
-well-by order b (sets-auxiliary e k) h = absurd (true-not-false h refl)
-well-by order b (releases {e = e} m k) h = absurd (true-not-false h (release-well (e .connection) order (numberAt (b .rows))))
-well-by order b (assigns-link-id i m e k) h = absurd (true-not-false h refl)
-well-by order b {opt} (transfers {p = p} {o = q} i m n k) h = absurd (true-not-false h (transfer-well opt (p .call .reference .0) i p q order (numberAt (b .rows))))
-well-by order b ends-alerting h = absurd (true-not-false h refl)
+well-by b (refuses c) h = refl
+well-by b (changes-nothing f g k) h = refl
+well-by b (opens-leg e f g) h = absurd (true-not-false h refl)
+well-by b (sets-state e k) h = absurd (true-not-false h refl)
+well-by b (sets-auxiliary e k) h = absurd (true-not-false h refl)
+well-by b (releases {e = e} m k) h = absurd (true-not-false h (release-well (e .connection) (numberAt (b .rows))))
+well-by b (assigns-link-id i m e k) h = absurd (true-not-false h refl)
+well-by b {opt} (transfers {p = p} {o = q} i m n k) h = absurd (true-not-false h (transfer-well opt (p .call .reference .0) i p q (numberAt (b .rows))))
+well-by b ends-alerting h = absurd (true-not-false h refl)
 
-well-done : (order : DropOrder) (b : Board) (os : List ℕ) → any errorRecord (replies order (b .rows) (decision b os)) ≡ true → boardAfter (decision b os) b ≡ b
+well-done : (b : Board) (os : List ℕ) → any errorRecord (replies (b .rows) (decision b os)) ≡ true → boardAfter (decision b os) b ≡ b
 unfolding decision
-well-done order b os h = well-by order b (decided (b .options) (b .candidate .0) (full (b .rows)) (taken (b .rows)) (request os)) h
+well-done b os h = well-by b (decided (b .options) (b .candidate .0) (full (b .rows)) (taken (b .rows)) (request os)) h
 
-untouched-done : (order : DropOrder) (b : Board) (d : Decision) → eqb (returnedBy d) 0 ≡ false → done order b d ≡ refused (returnedBy d) b
+untouched-done : (b : Board) (d : Decision) → eqb (returnedBy d) 0 ≡ false → done b d ≡ refused (returnedBy d) b
 unfolding boardAfter rowsAfter candidateAfter replies
-untouched-done order b (Refuse c) h = refl
-untouched-done order b (Accept c w) h = absurd (true-not-false refl h)
+untouched-done b (Refuse c) h = refl
+untouched-done b (Accept c w) h = absurd (true-not-false refl h)
 
 pub untouched-step : (b : Board) (e : Event) → eqb (stepped b e .returned) 0 ≡ false → stepped b e ≡ refused (stepped b e .returned) b
 unfolding step stepTested
 untouched-step b e = go (ltb (e .room) 128) (sound b)
   where
-    go : (x y : Bool) → eqb ((cond {A = Outcome} x (refused (refusalNumber refusal.BufferTooSmall) b) (cond y (done (e .order) b (decision b (e .octets))) (refused (refusalNumber refusal.UnsoundBoard) b))) .returned) 0 ≡ false →
-        cond {A = Outcome} x (refused (refusalNumber refusal.BufferTooSmall) b) (cond y (done (e .order) b (decision b (e .octets))) (refused (refusalNumber refusal.UnsoundBoard) b)) ≡ refused ((cond {A = Outcome} x (refused (refusalNumber refusal.BufferTooSmall) b) (cond y (done (e .order) b (decision b (e .octets))) (refused (refusalNumber refusal.UnsoundBoard) b))) .returned) b
+    go : (x y : Bool) → eqb ((cond {A = Outcome} x (refused (refusalNumber refusal.BufferTooSmall) b) (cond y (done b (decision b (e .octets))) (refused (refusalNumber refusal.UnsoundBoard) b))) .returned) 0 ≡ false →
+        cond {A = Outcome} x (refused (refusalNumber refusal.BufferTooSmall) b) (cond y (done b (decision b (e .octets))) (refused (refusalNumber refusal.UnsoundBoard) b)) ≡ refused ((cond {A = Outcome} x (refused (refusalNumber refusal.BufferTooSmall) b) (cond y (done b (decision b (e .octets))) (refused (refusalNumber refusal.UnsoundBoard) b))) .returned) b
     go true y h = refl
-    go false true h = untouched-done (e .order) b (decision b (e .octets)) h
+    go false true h = untouched-done b (decision b (e .octets)) h
     go false false h = refl
 
 pub unharmed : (b : Board) (e : Event) → any errorRecord (stepped b e .replies) ≡ true → stepped b e .board ≡ b
 unfolding step stepTested
 unharmed b e = go (ltb (e .room) 128) (sound b)
   where
-    go : (x y : Bool) → any errorRecord ((cond {A = Outcome} x (refused (refusalNumber refusal.BufferTooSmall) b) (cond y (done (e .order) b (decision b (e .octets))) (refused (refusalNumber refusal.UnsoundBoard) b))) .replies) ≡ true →
-        (cond {A = Outcome} x (refused (refusalNumber refusal.BufferTooSmall) b) (cond y (done (e .order) b (decision b (e .octets))) (refused (refusalNumber refusal.UnsoundBoard) b))) .board ≡ b
+    go : (x y : Bool) → any errorRecord ((cond {A = Outcome} x (refused (refusalNumber refusal.BufferTooSmall) b) (cond y (done b (decision b (e .octets))) (refused (refusalNumber refusal.UnsoundBoard) b))) .replies) ≡ true →
+        (cond {A = Outcome} x (refused (refusalNumber refusal.BufferTooSmall) b) (cond y (done b (decision b (e .octets))) (refused (refusalNumber refusal.UnsoundBoard) b))) .board ≡ b
     go true y h = refl
-    go false true h = well-done (e .order) b (e .octets) h
+    go false true h = well-done b (e .octets) h
     go false false h = refl
 
 -- ---- an error by the octets is an error by the records

@@ -12,7 +12,7 @@ use Rattle.board.specs.Soundness.{validDigits}
 use Rattle.component.proofs.Length.{answer-length}
 use Rattle.component.specs.Answers.{answerOctets}
 use Rattle.component.specs.declared.Answer.{Answer}
-use Rattle.rules.specs.Replies.{recordOctets, Reply, Tell, TellNumber, told, ReplyRecord, octets, drops, DropOrder, NamedFirst, OtherFirst, Written, nothing, replied}
+use Rattle.rules.specs.Replies.{recordOctets, Reply, Tell, TellNumber, told, ReplyRecord, octets, drops, Written, nothing, replied}
 
 pub reply-length : (r : ℕ) (a : Answer) → length (recordOctets (Reply r a)) ≡ 36
 reply-length r a =
@@ -30,10 +30,9 @@ pub one-length : (r : ReplyRecord) → length (octets (r ∷ [])) ≡ length (re
 unfolding octets
 one-length r = let e = length-append (recordOctets r) [] in omega arith
 
-drops-length : (o : DropOrder) (a b : ℕ) (rest : List ReplyRecord) → length (octets (drops o a b ++ rest)) ≡ 6 + length (octets rest)
+drops-length : (a b : ℕ) (rest : List ReplyRecord) → length (octets (drops a b ++ rest)) ≡ 6 + length (octets rest)
 unfolding octets
-drops-length NamedFirst a b rest = omega arith
-drops-length OtherFirst a b rest = omega arith
+drops-length a b rest = omega arith
 
 pub tells-length : (l m : ℕ) (a b : Bool) (n k : TellNumber) → length (n .digits) ≡ 15 → length (k .digits) ≡ 15 → length (octets (told l a b n ∷ told m b a k ∷ [])) ≡ 50
 unfolding octets
@@ -41,11 +40,11 @@ tells-length l m a b n k h j =
     let e = length-append (recordOctets (told l a b n)) (octets (told m b a k ∷ [])) in
     omega (arith, told-length l a b n h, told-length m b a k j, one-length (told m b a k))
 
-pub transfer-length : (order : DropOrder) (r : ℕ) (x : Answer) (a b : ℕ) (rest : List ReplyRecord) → length (octets rest) ≡ 50 → length (octets (Reply r x ∷ (drops order a b ++ rest))) ≡ 92
+pub transfer-length : (r : ℕ) (x : Answer) (a b : ℕ) (rest : List ReplyRecord) → length (octets rest) ≡ 50 → length (octets (Reply r x ∷ (drops a b ++ rest))) ≡ 92
 unfolding octets
-transfer-length order r x a b rest h =
-    let e = length-append (recordOctets (Reply r x)) (octets (drops order a b ++ rest)) in
-    omega (arith, reply-length r x, drops-length order a b rest, h)
+transfer-length r x a b rest h =
+    let e = length-append (recordOctets (Reply r x)) (octets (drops a b ++ rest)) in
+    omega (arith, reply-length r x, drops-length a b rest, h)
 
 -- the digits of a valid number
 pub fifteen : (n : ℕ) (ds : List ℕ) → validDigits n ds ≡ true → length ds ≡ 15
@@ -57,16 +56,16 @@ fifteen n ds h =
 
 -- what is written fits, where each number has 15 digits
 pub record Short (w : Written) : Type 0 where
-  pub fits : (order : DropOrder) (numbers : ℕ → TellNumber) → ((l : ℕ) → length (numbers l .digits) ≡ 15) → length (octets (w order numbers)) ≤ 92
+  pub fits : (numbers : ℕ → TellNumber) → ((l : ℕ) → length (numbers l .digits) ≡ 15) → length (octets (w numbers)) ≤ 92
 
 pub nothing-short : Short nothing
 unfolding octets
-nothing-short = record { fits = λ order numbers k. zero-le }
+nothing-short = record { fits = λ numbers k. zero-le }
 
 pub reply-short : (r : ℕ) (a : Answer) → Short (replied r a)
-reply-short r a = record { fits = λ order numbers k. omega (arith, one-length (Reply r a), reply-length r a) }
+reply-short r a = record { fits = λ numbers k. omega (arith, one-length (Reply r a), reply-length r a) }
 
 -- one Tell, with a number of 15 digits
 pub tell-short : (l m d : ℕ) (number : (ℕ → TellNumber) → TellNumber) (s : ℕ) → ((numbers : ℕ → TellNumber) → ((l : ℕ) → length (numbers l .digits) ≡ 15) → length (number numbers .digits) ≡ 15) →
-    Short (λ order numbers. Tell l m d (number numbers) s ∷ [])
-tell-short l m d number s h = record { fits = λ order numbers k. omega (arith, h numbers k, one-length (Tell l m d (number numbers) s)) }
+    Short (λ numbers. Tell l m d (number numbers) s ∷ [])
+tell-short l m d number s h = record { fits = λ numbers k. omega (arith, h numbers k, one-length (Tell l m d (number numbers) s)) }

@@ -30,7 +30,7 @@ use Rattle.rules.proofs.Lengths.{Short, fifteen, nothing-short, reply-s
 use Rattle.rules.specs.Checks.{Decision, writtenBy}
 use Rattle.events.specs.Refusals.{refusalNumber}
 use Rattle.events.specs.EventRecords.{Request, request, inRange}
-use Rattle.rules.specs.Replies.{numberAt, TellNumber, markOnly, numberOfRow, octets, DropOrder, tells, facility, transferredActive, transferReplies, releaseReplies, answerTold}
+use Rattle.rules.specs.Replies.{numberAt, TellNumber, markOnly, numberOfRow, octets, tells, facility, transferredActive, transferReplies, releaseReplies, answerTold}
 use Rattle.rules.specs.Step.{replies, step, stepTested, Outcome, refused, done, decision}
 use Rattle.octets.proofs.Lists.{left, true-not-false, right, find-mem, all-at}
 use Rattle.octets.specs.Lists.{all, find}
@@ -68,16 +68,16 @@ number-length rows k l = go (find at-leg rows) refl
 
 transfer-short : (o : Options) (r : ℕ) (i : IntegerOctets) (p q : Party) → Short (transferReplies o r i p q)
 transfer-short o r i p q = record {
-  fits = λ order numbers k.
+  fits = λ numbers k.
       let w = tells-length (p .leg) (q .leg) (delivered (p .call)) (delivered (q .call)) (numbers (q .leg)) (numbers (p .leg)) (k (q .leg)) (k (p .leg)) in
-      let e = transfer-length order r (answer.Result i) (p .call .reference .0) (q .call .reference .0) (tells o numbers p q) w in
+      let e = transfer-length r (answer.Result i) (p .call .reference .0) (q .call .reference .0) (tells o numbers p q) w in
       omega arith;
 }
 
 release-short : (t : Connection) → Short (releaseReplies t)
 unfolding octets
-release-short (WithUser c) = record { fits = λ order numbers k. omega arith }
-release-short (WithPartner p a) = record { fits = λ order numbers k. omega arith }
+release-short (WithUser c) = record { fits = λ numbers k. omega arith }
+release-short (WithPartner p a) = record { fits = λ numbers k. omega arith }
 
 answer-short : (o : Options) (l p : ℕ) → Short (answerTold o l p)
 answer-short o l p = tell-short p facility transferredActive (λ (numbers : ℕ → TellNumber). numbers l) 0 (λ numbers k. k l)
@@ -94,14 +94,14 @@ short-by {opt} k (transfers {p = p} {o = q} i m n h) = transfer-short opt (p .ca
 short-by {opt} k (ends-alerting {l = l} {p = p}) = answer-short opt l p
 
 -- whatever the board, the event and the buffer, what is written fits
-pub room-enough : (order : DropOrder) (b : Board) (os : List ℕ) (room : ℕ) → length (octets (step order b os room .replies)) ≤ 92
+pub room-enough : (b : Board) (os : List ℕ) (room : ℕ) → length (octets (step b os room .replies)) ≤ 92
 unfolding step stepTested sound soundRows octets replies decision
-room-enough order b os room = go (ltb room 128) (sound b) refl
+room-enough b os room = go (ltb room 128) (sound b) refl
   where
     go : (x y : Bool) → sound b ≡ y →
-        length (octets ((cond {A = Outcome} x (refused (refusalNumber refusal.BufferTooSmall) b) (cond y (done order b (decision b os)) (refused (refusalNumber refusal.UnsoundBoard) b))) .replies)) ≤ 92
+        length (octets ((cond {A = Outcome} x (refused (refusalNumber refusal.BufferTooSmall) b) (cond y (done b (decision b os)) (refused (refusalNumber refusal.UnsoundBoard) b))) .replies)) ≤ 92
     go true y h = zero-le
     go false true h =
-        short-by (request-in os) (decided (b .options) (b .candidate .0) (full (b .rows)) (taken (b .rows)) (request os)) .fits order (numberAt (b .rows))
+        short-by (request-in os) (decided (b .options) (b .candidate .0) (full (b .rows)) (taken (b .rows)) (request os)) .fits (numberAt (b .rows))
         (number-length (b .rows) (left (all validRow (b .rows)) _ (right (validOptions (b .options)) _ h)))
     go false false h = zero-le

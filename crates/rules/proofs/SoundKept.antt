@@ -17,7 +17,6 @@ use Rattle.rules.proofs.Rows.{rows-length}
 use Rattle.rules.specs.Book.{Book}
 use Rattle.rules.specs.Checks.{changeOf}
 use Rattle.events.specs.Refusals.{refusalNumber}
-use Rattle.rules.specs.Replies.{DropOrder}
 use Rattle.rules.specs.Step.{Outcome, boardAfter, decision, refused, step, stepTested, done}
 
 abbrev own-book : Board → Book
@@ -38,28 +37,28 @@ own-together b l s =
     }
 
 -- a board that is not sound stays, and so does every board's number of rows
-module _ (order : DropOrder) (b : Board) (os : List ℕ) (room : ℕ) where
-  unsound-stays : sound b ≡ false → step order b os room .board ≡ b
+module _ (b : Board) (os : List ℕ) (room : ℕ) where
+  unsound-stays : sound b ≡ false → step b os room .board ≡ b
   unfolding step stepTested
   unsound-stays h = go (ltb room 128) (sound b) h
     where
-      go : (x y : Bool) → y ≡ false → (cond {A = Outcome} x (refused (refusalNumber BufferTooSmall) b) (cond y (done order b (decision b os)) (refused (refusalNumber UnsoundBoard) b))) .board ≡ b
+      go : (x y : Bool) → y ≡ false → (cond {A = Outcome} x (refused (refusalNumber BufferTooSmall) b) (cond y (done b (decision b os)) (refused (refusalNumber UnsoundBoard) b))) .board ≡ b
       go true y e = refl
       go false true e = absurd (true-not-false refl e)
       go false false e = refl
 
-  pub as-many-rows : length (step order b os room .board .rows) ≡ length (b .rows)
+  pub as-many-rows : length (step b os room .board .rows) ≡ length (b .rows)
   unfolding step stepTested boardAfter
   as-many-rows = go (ltb room 128) (sound b)
     where
-      go : (x y : Bool) → length ((cond {A = Outcome} x (refused (refusalNumber BufferTooSmall) b) (cond y (done order b (decision b os)) (refused (refusalNumber UnsoundBoard) b))) .board .rows) ≡ length (b .rows)
+      go : (x y : Bool) → length ((cond {A = Outcome} x (refused (refusalNumber BufferTooSmall) b) (cond y (done b (decision b os)) (refused (refusalNumber UnsoundBoard) b))) .board .rows) ≡ length (b .rows)
       go true y = refl
       go false true = rows-length (changeOf (decision b os)) (b .rows)
       go false false = refl
 
-  pub sound-kept : length (b .rows) ≡ 64 → sound (step order b os room .board) ≡ sound b
+  pub sound-kept : length (b .rows) ≡ 64 → sound (step b os room .board) ≡ sound b
   sound-kept l = go (sound b) refl
     where
-      go : (x : Bool) → sound b ≡ x → sound (step order b os room .board) ≡ x
-      go true h = sound-together (next (own-together b l h) (record { octets = os; room = room; order = order }) .together)
+      go : (x : Bool) → sound b ≡ x → sound (step b os room .board) ≡ x
+      go true h = sound-together (next (own-together b l h) (record { octets = os; room = room }) .together)
       go false h = ap sound (unsound-stays h) ∙ h

@@ -5,11 +5,11 @@ use mathlib.Core.Logic.{_↔_, _⊎_, inl, inr}
 use mathlib.Core.Bool.{_&&_, false, true, not, Bool, cond}
 use mathlib.Core.List.{_++_, _∷_, List, [], append-assoc}
 use mathlib.Core.Option.{Option, some, none}
-use lib.Dec.{eqb, T, ltb}
+use lib.Dec.{eqb, T}
 use Rattle.board.specs.declared.Connection.the-variants.{WithUser}
 use Rattle.board.specs.Entries.{hasLeg}
 use Rattle.board.specs.Making.{options, emptyBoard, makingRefused, fresh}
-use Rattle.board.specs.Soundness.{validOptions, sound}
+use Rattle.board.specs.Soundness.{validOptions}
 use Rattle.board.specs.declared.Board.{Board}
 use Rattle.board.specs.declared.Call.{Call}
 use Rattle.board.specs.declared.Made.{Made}
@@ -20,14 +20,12 @@ use Rattle.rules.proofs.Partner.{has-row, Shape, partnerOf, shaped-list
 use Rattle.rules.proofs.Presence.{nil-is-no-split, LivesIn, lives, opensAt, endsAt, lives-is, lives-from, Unended, seen-next, together-sound, lives-to}
 use Rattle.rules.specs.Book.{Book, bookAfter, entriesAfter, candidateMoves, bookStep, bookDecision, freshBook, emptyBook}
 use Rattle.rules.specs.Checks.{Decision, returnedBy, changeOf, Refuse, Accept}
-use Rattle.events.specs.Refusals.{refusalNumber}
 use Rattle.events.specs.EventRecords.{request}
 use Rattle.rules.specs.History.{history, booked, Event, accepts, stepped, bookAt, boardAt, bookReturns, accepted, opens, ends, Lives, endsLeg, Agree, transferOf, joinedBy, onBoard, Partners, HasRow, WholeHistory, Demand3Of, Demand3}
-use Rattle.rules.specs.Replies.{octets, DropOrder}
-use Rattle.rules.specs.Step.{refused, step, stepTested, Outcome, done, decision}
+use Rattle.rules.specs.Replies.{octets}
+use Rattle.rules.specs.Step.{Outcome}
 use Rattle.octets.proofs.Lists.{true-not-false, both, left, right, from-true, is-true, mem-perm, p-sym, length-perm, or-left, any-perm, is-not}
 use Rattle.octets.specs.Lists.{all, any}
-use Rattle.events.specs.declared.Refusal.the-variants as refusal
 
 -- ---- the history: a refused event changes neither book nor board
 
@@ -293,15 +291,3 @@ whole-history s a list = go (validOptions (options s a)) refl
         WholeHistory ((cond {A = Made} x (record { returned = 0; board = emptyBoard (options s a) }) makingRefused) .board) (cond {A = Book} x (emptyBook (options s a)) (emptyBook (options 0 0))) list
     go true h = whole-history-of (options s a) (from-true h) list
     go false h = whole-history-of (options 0 0) tt list
-
--- the order of the Drops changes neither the answer nor the board
-pub any-order : (o p : DropOrder) (b : Board) (os : List ℕ) (room : ℕ) → (step o b os room .returned ≡ step p b os room .returned) × (step o b os room .board ≡ step p b os room .board)
-unfolding step stepTested
-any-order o p b os room = go (ltb room 128) (sound b)
-  where
-    go : (x y : Bool) →
-        ((cond {A = Outcome} x (refused (refusalNumber refusal.BufferTooSmall) b) (cond y (done o b (decision b os)) (refused (refusalNumber refusal.UnsoundBoard) b))) .returned ≡ (cond {A = Outcome} x (refused (refusalNumber refusal.BufferTooSmall) b) (cond y (done p b (decision b os)) (refused (refusalNumber refusal.UnsoundBoard) b))) .returned)
-        × ((cond {A = Outcome} x (refused (refusalNumber refusal.BufferTooSmall) b) (cond y (done o b (decision b os)) (refused (refusalNumber refusal.UnsoundBoard) b))) .board ≡ (cond {A = Outcome} x (refused (refusalNumber refusal.BufferTooSmall) b) (cond y (done p b (decision b os)) (refused (refusalNumber refusal.UnsoundBoard) b))) .board)
-    go true y = (refl, refl)
-    go false true = (refl, refl)
-    go false false = (refl, refl)

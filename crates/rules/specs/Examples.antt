@@ -9,13 +9,12 @@ use Rattle.board.specs.declared.Connection.the-variants.{WithPartner}
 use Rattle.board.specs.declared.Entry.{Entry}
 use Rattle.board.specs.Entries.{entry, taken, isJoined}
 use Rattle.board.specs.Making.{fresh}
-use Rattle.rules.specs.Replies.{OtherFirst}
 use Rattle.rules.specs.Book.{freshBook}
 use Rattle.rules.specs.History.{Event, boardAt, bookAt, history, returns}
 use Rattle.rules.specs.Situations.{openRecord, progressRecord, holdRecord, facilityRecord, ectExecute}
 
 abbrev pub event : List ℕ → Event
-event os = record { octets = os; room = 128; order = OtherFirst }
+event os = record { octets = os; room = 128 }
 
 -- two calls, the first Active and held, the second Delivered; a second Open of leg 2, which is refused; EctExecute on the first
 abbrev pub transferList : List Event

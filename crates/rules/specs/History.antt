@@ -21,21 +21,20 @@ use Rattle.board.specs.Soundness.{sound, sameLinkIds, validOptions}
 use Rattle.board.specs.Making.{emptyBoard, fresh}
 use Rattle.events.specs.EventRecords.{request, Request, Malformed, Open, Progress, Hold, Release, Facility, Answer}
 use Rattle.rules.specs.Checks.{BoardChange, Enter, Apply, returnedBy, changeOf}
-use Rattle.rules.specs.Replies.{DropOrder, errorRecord, errorOctets, octets}
+use Rattle.rules.specs.Replies.{errorRecord, errorOctets, octets}
 use Rattle.rules.specs.Step.{step, Outcome, refused}
 use Rattle.rules.specs.Book.{Book, emptyBook, freshBook, bookDecision, bookStep}
 
 -- ---- playing a list
 
--- an event as it is played: any octets at all, a reply buffer of any length, and the order in which the two Drops of a transfer come
+-- an event as it is played: any octets at all, and a reply buffer of any length
 pub record Event : Type 0 where
   pub octets : List ℕ
   pub room : ℕ
-  pub order : DropOrder
 
 -- what an event does to a board
 abbrev pub stepped : Board → Event → Outcome
-stepped b e = step (e .order) b (e .octets) (e .room)
+stepped b e = step b (e .octets) (e .room)
 
 -- "each event gets the board that the last one returned or left"
 unfoldable pub boardAt : Board → List Event → Board

@@ -92,42 +92,37 @@ tells o numbers p q =
     ∷ told (q .leg) (delivered (q .call)) (delivered (p .call)) (numbers (p .leg))
     ∷ []
 
--- the one point left open: "two Drops in either order"
-pub data DropOrder : Type 0 where
-  NamedFirst : DropOrder
-  OtherFirst : DropOrder
-
-abbrev pub drops : DropOrder → ℕ → ℕ → List ReplyRecord
-drops NamedFirst named other = Drop named ∷ Drop other ∷ []
-drops OtherFirst named other = Drop other ∷ Drop named ∷ []
+-- "The named call's Drop comes first, the other second." (document 02, slip 3)
+abbrev pub drops : ℕ → ℕ → List ReplyRecord
+drops named other = Drop named ∷ Drop other ∷ []
 
 -- ---- what an event writes
 
--- its records, by the order of two Drops, which is left open, and by the number of the party at each leg, which the rows have
+-- its records, by the number of the party at each leg, which the rows have
 abbrev pub Written : Type 0
-Written = DropOrder → (ℕ → TellNumber) → List ReplyRecord
+Written = (ℕ → TellNumber) → List ReplyRecord
 
 -- "Open, Progress and Hold write nothing"
 abbrev pub nothing : Written
-nothing order numbers = []
+nothing numbers = []
 
 -- the answer to the component of a Facility, on "the event's reference"
 abbrev pub replied : ℕ → Answer → Written
-replied r a order numbers = Reply r a ∷ []
+replied r a numbers = Reply r a ∷ []
 
--- "A transfer writes Reply (A2, identifier only) on the named reference, two Drops in either order, then two Tells"
+-- "A transfer writes Reply (A2, identifier only) on the named reference, two Drops .., then two Tells"
 abbrev pub transferReplies : Options → ℕ → IntegerOctets → Party → Party → Written
-transferReplies o r i p q order numbers =
-    Reply r (answer.Result i) ∷ (drops order (p .call .reference .0) (q .call .reference .0) ++ tells o numbers p q)
+transferReplies o r i p q numbers =
+    Reply r (answer.Result i) ∷ (drops (p .call .reference .0) (q .call .reference .0) ++ tells o numbers p q)
 
 -- "Release of a served call writes one Drop; of a joined leg, one Gone for the partner."
 abbrev pub releaseReplies : Connection → Written
-releaseReplies (WithUser c) order numbers = Drop (c .reference .0) ∷ []
-releaseReplies (WithPartner p a) order numbers = Gone p ∷ []
+releaseReplies (WithUser c) numbers = Drop (c .reference .0) ∷ []
+releaseReplies (WithPartner p a) numbers = Gone p ∷ []
 
 -- "Answer tells the partner FACILITY, EA, the answering number, request 0 (H)."; the options make no difference
 abbrev pub answerTold : Options → ℕ → ℕ → Written
-answerTold o l partner order numbers = Tell partner facility transferredActive (numbers l) 0 ∷ []
+answerTold o l partner numbers = Tell partner facility transferredActive (numbers l) 0 ∷ []
 
 -- ---- "An error answer is a Reply whose component begins A3 or A4."
 

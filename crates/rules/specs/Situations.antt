@@ -19,7 +19,7 @@ use Rattle.board.specs.declared.Board.{Board}
 use Rattle.board.specs.Making.{fresh}
 use Rattle.board.specs.Counts.{counts}
 use Rattle.rules.specs.Pairing.{verdict}
-use Rattle.rules.specs.Replies.{ReplyRecord, Reply, Tell, Drop, octets, markOnly, NamedFirst, facility, transferredActive}
+use Rattle.rules.specs.Replies.{ReplyRecord, Reply, Tell, Drop, octets, markOnly, facility, transferredActive}
 use Rattle.rules.specs.Step.{step}
 
 -- ---- event records
@@ -53,11 +53,11 @@ ectLinkIdRequest = 0xA1 ∷ 0x0B ∷ 0x02 ∷ 0x01 ∷ 0x05 ∷ 0x06 ∷ 0x06 �
 -- the board after records, each with a reply buffer of 128 octets
 unfoldable pub afterRecords : Board → List (List ℕ) → Board
 afterRecords b [] = b
-afterRecords b (r ∷ rs) = afterRecords (step NamedFirst b r 128 .board) rs
+afterRecords b (r ∷ rs) = afterRecords (step b r 128 .board) rs
 
 -- the number returned, and the octets written
 abbrev pub numberAndOctets : Board → List ℕ → List ℕ
-numberAndOctets b r = step NamedFirst b r 128 .returned ∷ octets (step NamedFirst b r 128 .replies)
+numberAndOctets b r = step b r 128 .returned ∷ octets (step b r 128 .replies)
 
 -- accepted, with these records
 abbrev pub answeredBy : List ReplyRecord → List ℕ
@@ -132,8 +132,8 @@ pub record Situations : Type 0 where
       ∷ Tell 1 facility transferredActive (markOnly 0) 1
       ∷ [])
   -- "Buffer 127: refusal 1; 128: not."
-  pub buffer-127 : step NamedFirst (heldAndIdle 2) (openRecord 3) 127 .returned ≡ 1
-  pub buffer-128 : step NamedFirst (heldAndIdle 2) (openRecord 3) 128 .returned ≡ 0
+  pub buffer-127 : step (heldAndIdle 2) (openRecord 3) 127 .returned ≡ 1
+  pub buffer-128 : step (heldAndIdle 2) (openRecord 3) 128 .returned ≡ 0
   -- "Counts of a fresh board: 0, 0, 0; after a transfer with no third call: legs 2, pairs 1, links 0."
   pub counts-of-a-fresh-board : counts (fresh 1 1 .board .rows) ≡ record { returned = 0; legs = 0; pairs = 0; links = 0 }
   pub counts-after-a-transfer :
@@ -145,7 +145,7 @@ pub record Situations : Type 0 where
 -- what each record says, and the counts at the end
 unfoldable pub log : Board → List (List ℕ) → List (List ℕ)
 log b [] = []
-log b (r ∷ rs) = numberAndOctets b r ∷ log (step NamedFirst b r 128 .board) rs
+log b (r ∷ rs) = numberAndOctets b r ∷ log (step b r 128 .board) rs
 
 -- "Open reference 1, leg 7, outgoing, shown, digits 21"
 abbrev pub workedOpen : List ℕ

@@ -17,7 +17,7 @@ use Rattle.events.specs.declared.Refusal.the-variants.{BufferTooSmall, UnsoundB
 use Rattle.events.specs.EventRecords.{request}
 use Rattle.rules.specs.Checks.{BoardChange, Enter, Apply, Decision, decide, returnedBy, changeOf, newLinkIdOf, writtenBy}
 use Rattle.events.specs.Refusals.{refusalNumber}
-use Rattle.rules.specs.Replies.{ReplyRecord, DropOrder, numberAt}
+use Rattle.rules.specs.Replies.{ReplyRecord, numberAt}
 use Rattle.board.specs.declared.PartyNumber.{PartyNumber}
 
 -- ---- the board afterwards
@@ -47,8 +47,8 @@ unfoldable pub boardAfter : Decision → Board → Board
 boardAfter d b = record { rows = rowsAfter (changeOf d) (b .rows); options = b .options; candidate = candidateAfter (changeOf d) (b .candidate) }
 
 -- the replies, with the numbers that the rows have
-unfoldable pub replies : DropOrder → List Row → Decision → List ReplyRecord
-replies order rows d = writtenBy d order (numberAt rows)
+unfoldable pub replies : List Row → Decision → List ReplyRecord
+replies rows d = writtenBy d (numberAt rows)
 
 -- ---- the event
 
@@ -64,14 +64,14 @@ refused n b = record { returned = n; board = b; replies = [] }
 unfoldable pub decision : Board → List ℕ → Decision
 decision b os = decide (b .options) (b .candidate .0) (full (b .rows)) (taken (b .rows)) (request os)
 
-abbrev pub done : DropOrder → Board → Decision → Outcome
-done order b d = record { returned = returnedBy d; board = boardAfter d b; replies = replies order (b .rows) d }
+abbrev pub done : Board → Decision → Outcome
+done b d = record { returned = returnedBy d; board = boardAfter d b; replies = replies (b .rows) d }
 
 -- "1: reply buffer below 128 octets"; "2: board not sound", where `tested` is the answer to that test; then the checks of the record
-unfoldable pub stepTested : Bool → DropOrder → Board → List ℕ → ℕ → Outcome
-stepTested tested order b os room =
+unfoldable pub stepTested : Bool → Board → List ℕ → ℕ → Outcome
+stepTested tested b os room =
     cond (ltb room 128) (refused (refusalNumber BufferTooSmall) b)
-    (cond tested (done order b (decision b os)) (refused (refusalNumber UnsoundBoard) b))
+    (cond tested (done b (decision b os)) (refused (refusalNumber UnsoundBoard) b))
 
-unfoldable pub step : DropOrder → Board → List ℕ → ℕ → Outcome
-step order b os room = stepTested (sound b) order b os room
+unfoldable pub step : Board → List ℕ → ℕ → Outcome
+step b os room = stepTested (sound b) b os room

@@ -18,7 +18,7 @@ use Rattle.board.specs.Entries.{hasLeg, hasReference}
 use Rattle.board.specs.States.{delivered}
 use Rattle.board.specs.Changes.{full, enter, changedRows, withRows}
 use Rattle.board.specs.Making.{emptyRow}
-use Rattle.rules.specs.Replies.{NamedFirst, numberAt}
+use Rattle.rules.specs.Replies.{numberAt}
 use Rattle.rules.specs.Checks as checks
 use Rattle.rules.specs.Checks.{Decision, Refuse, Accept, changeOf, assignedBy, opened, opening, named, decideOpen, decideFacility}
 use Rattle.rules.specs.Step.{enteredRow, replies, candidateBy}
@@ -62,7 +62,7 @@ boardBy (Apply c) row b = record { rows = changedRows c (b .rows); options = b .
 
 -- the effect of the decision d on the board b: the replies are those for its rows, the named call's Drop first
 pub record EffectOf (r : Effect) (b : Board) (d : Decision) : Type 0 where
-  pub is : r ≡ effect (acceptanceOf d) (changeIn (changeOf d)) (rowIn (changeOf d)) (rendered (replies NamedFirst (b .rows) d))
+  pub is : r ≡ effect (acceptanceOf d) (changeIn (changeOf d)) (rowIn (changeOf d)) (rendered (replies (b .rows) d))
 
 -- the effect of the decision, whatever the board
 abbrev pub EffectAnywhere : Effect → Decision → Type 0

@@ -28,10 +28,10 @@ kind-of-requires : tie.Need-kind-of-requires
 kind-of-requires c κs = search needs
 
 array-share-prefix-reply : tie.Need-array-share-prefix-reply
-array-share-prefix-reply c = rw (c .before .written .ensures) (count-within (c .before .before .before .before .step-tested .ensures .1) (long (c .before .before .before .before)))
+array-share-prefix-reply c = rw (c .before .written .ensures) (count-within (c .before .before .before .before .step-tested .ensures) (long (c .before .before .before .before)))
 
 slice-aggregate-record-line : tie.Need-slice-aggregate-record-line
-slice-aggregate-record-line c = sym (length-take-le (c .before .before .written .result) (c .before .before .before .before .before .step-tested .last .1 .1 .1 .0) (rw (c .before .before .written .ensures) (count-within (c .before .before .before .before .before .step-tested .ensures .1) (long (c .before .before .before .before .before)))))
+slice-aggregate-record-line c = sym (length-take-le (c .before .before .written .result) (c .before .before .before .before .before .step-tested .last .1 .1 .1 .0) (rw (c .before .before .written .ensures) (count-within (c .before .before .before .before .before .step-tested .ensures) (long (c .before .before .before .before .before)))))
 
 record-line-requires : tie.Need-record-line-requires
 record-line-requires c κs = search needs
@@ -46,12 +46,10 @@ returns c =
     let s = at .step-tested .ensures in
     let r = c .before .before .before .before .before .before .before .before .returned in
     let k = c .before .before .before .before .before .before .kind-of in
-    let o = stepTested (v .is-sound) (s .0) (v .board) (v .event .now) 128 in (
-      s .0,
-      told (s .1) (r .ensures) (c .before .before .before .before .before .before .before .written .ensures) (rw (k .ensures) at (c .before .before .before .record-line .ensures))
-          (outcome-short o (v .number) (v .event .now) (search needs) (rw (sym (k .ensures)) (search needs)) (rw (sym (s .1 .answer), sym (r .ensures)) (search needs))
-          (rw (sym (s .1 .count), sym (long at)) (count-within (s .1) (long at)))),
-    )
+    let o = stepTested (v .is-sound) (v .board) (v .event .now) 128 in
+    told s (r .ensures) (c .before .before .before .before .before .before .before .written .ensures) (rw (k .ensures) at (c .before .before .before .record-line .ensures))
+    (outcome-short o (v .number) (v .event .now) (search needs) (rw (sym (k .ensures)) (search needs)) (rw (sym (s .answer), sym (r .ensures)) (search needs))
+    (rw (sym (s .count), sym (long at)) (count-within s (long at))))
 
 pub play-record-spec : {M : Type 1} → statement M
 play-record-spec =

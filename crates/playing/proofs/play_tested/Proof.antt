@@ -2,7 +2,7 @@
 use Prim.Native.Nat.{ℕ, _+_, _-_, _≤_, _<_}
 use native.Mathlib.Omega.{arith}
 use mathlib.Core.Path.{_≡_, refl, sym, ap, _∙_}
-use mathlib.Core.List.{List, []}
+use mathlib.Core.List.{List}
 use lib.ListN.{length, take, drop, length-drop, length-map}
 use borrow.Author.Needs.{needs}
 use Rattle.board.specs.Soundness.{sound}
@@ -49,7 +49,7 @@ returns c =
     let some = length-drop (at .read) (v .piece .now) in
     rw (c .paused .ensures)
     (pauses (at .inv .5)
-    (plays-full [] (at .board) (at .number) (drop (at .read) (v .piece .now)) (v .is-last) (length (v .out .now) - at .text) (omega (arith, some)) (omega (arith, c .before .if1 .taken, at .inv .2))))
+    (plays-full (at .board) (at .number) (drop (at .read) (v .piece .now)) (v .is-last) (length (v .out .now) - at .text) (omega (arith, some)) (omega (arith, c .before .if1 .taken, at .inv .2))))
 
 sub-front-length : tie.Need-sub-front-length Inv-loop μ-loop
 sub-front-length c = search needs
@@ -77,7 +77,7 @@ returns-2 c =
     let front = c .before .before .front-length .ensures .0 ∙ ap (frontLength (v .is-last)) (rest (at .read) (v .piece .now)) in
     rw (c .paused2 .ensures)
     (pauses (at .inv .5)
-    (plays-part [] (at .board) (at .number) (drop (at .read) (v .piece .now)) (v .is-last) (length (v .out .now) - at .text) (omega (arith, some))
+    (plays-part (at .board) (at .number) (drop (at .read) (v .piece .now)) (v .is-last) (length (v .out .now) - at .text) (omega (arith, some))
     (omega (arith, c .before .before .before .before .if1 .left, at .inv .2)) (sym front ∙ c .before .if2 .taken)))
 
 paused-requires-3 : tie.Need-paused-requires-3 Inv-loop μ-loop
@@ -94,7 +94,7 @@ returns-3 c =
     let front = c .before .before .before .front-length .ensures .0 ∙ ap (frontLength (v .is-last)) (rest (at .read) (v .piece .now)) in
     rw (c .paused3 .ensures)
     (pauses (at .inv .5)
-    (plays-most [] (at .board) (at .number) (drop (at .read) (v .piece .now)) (v .is-last) (length (v .out .now) - at .text) (omega (arith, some))
+    (plays-most (at .board) (at .number) (drop (at .read) (v .piece .now)) (v .is-last) (length (v .out .now) - at .text) (omega (arith, some))
     (omega (arith, c .before .before .before .before .before .if1 .left, at .inv .2)) (omega (arith, c .before .before .if2 .left, front)) (c .before .if3 .taken)))
 
 add-number : tie.Need-add-number Inv-loop μ-loop
@@ -131,7 +131,7 @@ add-text : tie.Need-add-text Inv-loop μ-loop
 add-text c = omega (
   arith,
   room (c .before .before .before .before .before .before .before .before .before .before .before .before .before),
-  c .before .before .before .before .play-record .ensures .1 .line .within,
+  c .before .before .before .before .play-record .ensures .line .within,
   length-drop (c .before .before .before .before .before .before .before .before .before .before .before .before .before .loop .text) (c .before .before .before .before .before .before .before .before .before .before .before .before .before .loop .out),
 )
 
@@ -191,9 +191,9 @@ returns-4 c =
     let f = c .before .before .before .before .before .before .before .before .before .before .before .before .front-length .result in
     let t = c .before .before .before .before .before .before .before .play-record in
     let event = take (at .read + f - at .read) (drop (at .read) (v .piece .now)) in
-    let s = tells-step (t .ensures .0) (at .board) event (at .inv .3) (t .ensures .1) in
+    let s = tells-step (at .board) event (at .inv .3) (t .ensures) in
     rw (c .paused4 .ensures)
-    (turns-last (at .inv .5) f event (take (length (at .out) - at .text) (drop (at .text) (at .out))) _ (t .ensures .0) (t .result)
+    (turns-last (at .inv .5) f event (take (length (at .out) - at .text) (drop (at .text) (at .out))) _ (t .result)
     (more (c .before .before)) (omega (arith, at .inv .1, at .inv .2)) (at .inv .2) (room-left (c .before .before)) (fewer (c .before .before)) (is-front (c .before .before)) (some (c .before .before))
     (part-of (at .read) f (v .piece .now)) (rest (at .text) (at .out)) s (sym (c .before .before .stops .ensures) ∙ c .before .if4 .taken))
 
@@ -207,14 +207,14 @@ loop-again c =
     let f = c .before .before .before .before .before .before .before .before .before .before .before .front-length .result in
     let t = c .before .before .before .before .before .before .play-record in
     let event = take (at .read + f - at .read) (drop (at .read) (v .piece .now)) in
-    let s = tells-step (t .ensures .0) (at .board) event (at .inv .3) (t .ensures .1) in
-    let k = stays-sound (t .ensures .0) (at .board) event (at .inv .3) (t .ensures .1) (at .inv .4) in (
+    let s = tells-step (at .board) event (at .inv .3) (t .ensures) in
+    let k = stays-sound (at .board) event (at .inv .3) (t .ensures) (at .inv .4) in (
       within (c .before),
       search needs,
       search needs,
       k .0,
       k .1,
-      turns-on (at .inv .5) f event (take (length (at .out) - at .text) (drop (at .text) (at .out))) _ (t .ensures .0) (t .result)
+      turns-on (at .inv .5) f event (take (length (at .out) - at .text) (drop (at .text) (at .out))) _ (t .result)
           (more (c .before)) (omega (arith, at .inv .1, at .inv .2)) (at .inv .2) (room-left (c .before)) (fewer (c .before)) (is-front (c .before)) (some (c .before))
           (part-of (at .read) f (v .piece .now)) (rest (at .text) (at .out)) s (sym (c .before .stops .ensures) ∙ c .if4 .left),
     )
@@ -232,7 +232,7 @@ returns-5 : tie.Need-returns-5 Inv-loop μ-loop
 returns-5 c =
     let v = c .before .before .before .before .before .before .args in
     let at = c .before .before .before .loop in
-    rw (c .paused5 .ensures) (pauses (at .inv .5) (rw (c .before .at-end .ensures) (plays-end [] (at .board) (at .number) (drop (at .read) (v .piece .now)) (v .is-last) (length (v .out .now) - at .text) (omega (arith, length-drop (at .read) (v .piece .now))))))
+    rw (c .paused5 .ensures) (pauses (at .inv .5) (rw (c .before .at-end .ensures) (plays-end (at .board) (at .number) (drop (at .read) (v .piece .now)) (v .is-last) (length (v .out .now) - at .text) (omega (arith, length-drop (at .read) (v .piece .now))))))
 
 pub play-tested-spec : {M : Type 1} → statement M
 play-tested-spec =

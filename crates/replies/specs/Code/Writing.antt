@@ -9,7 +9,7 @@ use Rattle.octets.specs.Code.Appending.{Appended}
 use Rattle.component.specs.declared.Answer.the-variants as answer
 use Rattle.replies.specs.declared.Out.{Out}
 use Rattle.replies.specs.declared.FarParty.{FarParty}
-use Rattle.rules.specs.Replies.{ReplyRecord, Reply, octets, NamedFirst, drops, told}
+use Rattle.rules.specs.Replies.{ReplyRecord, Reply, octets, drops, told}
 
 -- the octets of the records, in their order, and zeros behind them
 unfoldable pub rendered : List ReplyRecord → Out
@@ -41,4 +41,4 @@ transferTells named other =
 -- the records of a transfer, the Reply on the reference r, the named one's Drop first
 abbrev pub transferRecords : CallReference → IntegerOctets → FarParty → FarParty → List ReplyRecord
 transferRecords r i named other =
-    Reply (r .0) (answer.Result i) ∷ (drops NamedFirst (named .reference .0) (other .reference .0) ++ transferTells named other)
+    Reply (r .0) (answer.Result i) ∷ (drops (named .reference .0) (other .reference .0) ++ transferTells named other)
