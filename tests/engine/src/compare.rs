@@ -6,10 +6,6 @@ use crate::play::{next_record, play, start};
 use crate::program::{Feed, Program};
 use crate::tally::Tally;
 
-/// A transfer's octets in hex: Reply, then the two Drops, then two Tells.
-const TRANSFER: usize = 2 * 92;
-const DROPS: usize = 2 * 36;
-const DROP: usize = 2 * 3;
 /// So many logs, those after the long ones, are fed in small parts too.
 const FED_IN_PARTS: usize = 12;
 
@@ -22,15 +18,12 @@ pub struct Difference {
 }
 
 pub fn compare(expected: &[u8], got: &[u8]) -> Result<(), Difference> {
-    if expected == got {
-        return Ok(());
-    }
     let mut wanted = expected.split_inclusive(|&octet| octet == b'\n');
     let mut given = got.split_inclusive(|&octet| octet == b'\n');
     for line in 1.. {
         match (wanted.next(), given.next()) {
             (None, None) => break,
-            (Some(a), Some(b)) if a == b || drops_swapped(a, b) => {}
+            (a, b) if a == b => {}
             (a, b) => return Err(Difference { line, expected: shown(a), got: shown(b) }),
         }
     }
@@ -39,20 +32,6 @@ pub fn compare(expected: &[u8], got: &[u8]) -> Result<(), Difference> {
 
 fn shown(line: Option<&[u8]>) -> String {
     line.map_or("nothing".to_string(), |line| format!("{:?}", String::from_utf8_lossy(line)))
-}
-
-/// Whether two lines of a transfer differ in the order of its Drops alone.
-fn drops_swapped(expected: &[u8], got: &[u8]) -> bool {
-    let Some(space) = expected.iter().rposition(|&octet| octet == b' ') else { return false };
-    let octets = &expected[space + 1..];
-    // The line ends with a line feed.
-    if octets.len() != TRANSFER + 1 || &octets[DROPS..DROPS + 2] != b"83" {
-        return false;
-    }
-    let first = space + 1 + DROPS;
-    let mut swapped = expected.to_vec();
-    swapped[first..first + 2 * DROP].rotate_left(DROP);
-    swapped == got
 }
 
 /// Plays all logs of a seed through the engine alone.

@@ -29,6 +29,7 @@ pub mod notice;
 pub mod notice_component;
 pub mod notice_invoke;
 pub mod notice_pair;
+pub mod notice_transfer;
 pub mod tally;
 
 // Playing them through another program.

@@ -3,7 +3,7 @@
 use crate::board::{Aux, Board, Call, CallState, LinkId, Reference, Row, MAX_LIVE};
 use crate::component::{read, take, Element, Operation, Reading, MAX_DEPTH};
 use crate::notice::{Moment, Past};
-use crate::reply::mark;
+use crate::notice_transfer::{transferred, EXPLICIT, IMPLICIT};
 use crate::serve::{pairs, verdict};
 use crate::tally::{Seen, Tally};
 
@@ -198,8 +198,7 @@ fn executed(moment: &Moment, named: &Row, call: &Call, past: &mut Past, tally: &
         second.aux == Aux::HoldRequest && second.state == CallState::Active && call.aux == Aux::Idle
     });
     tally.add_if(requested, Seen::TransferPassesHoldRequest);
-    let seen = [Seen::ImplicitActive, Seen::ImplicitNamedAlerts, Seen::ImplicitOtherAlerts];
-    transferred(named, other, seen, past, tally);
+    transferred(board, named, other, &IMPLICIT, past, tally);
 }
 
 fn explicit(
@@ -226,8 +225,7 @@ fn explicit(
     }
     let octets = elements(&component[2..])[2].contents.len();
     link_form(link, octets, tally);
-    let seen = [Seen::ExplicitActive, Seen::ExplicitNamedAlerts, Seen::ExplicitOtherAlerts];
-    transferred(named, other, seen, past, tally);
+    transferred(moment.before, named, other, &EXPLICIT, past, tally);
 }
 
 fn link_form(link: LinkId, octets: usize, tally: &mut Tally) {
@@ -241,29 +239,4 @@ fn link_form(link: LinkId, octets: usize, tally: &mut Tally) {
         (true, true, _) => Seen::ExplicitNegativePadded,
         (true, false, _) => Seen::ExplicitNegativeTwo,
     });
-}
-
-/// `seen` is for both Active, the named call alerting, the other call alerting.
-fn transferred(named: &Row, other: &Row, seen: [Seen; 3], past: &mut Past, tally: &mut Tally) {
-    let (Some(a), Some(b)) = (named.call(), other.call()) else { return };
-    past.references.extend([a.reference, b.reference]);
-    past.links.extend(a.link.iter().chain(&b.link));
-    tally.add(if a.aux == Aux::Held { Seen::TransferNamedHeld } else { Seen::TransferNamedIdle });
-    tally.add_if(a.link.is_some(), Seen::TransferLinkNamed);
-    tally.add_if(b.link.is_some(), Seen::TransferLinkOther);
-    let (alerting, active) = match (a.state, b.state) {
-        (CallState::Delivered, _) => (a, other),
-        (_, CallState::Delivered) => (b, named),
-        _ => {
-            tally.add(seen[0]);
-            let marks = [Seen::TellUnknown, Seen::TellGiven, Seen::TellWithheld];
-            tally.add(marks[mark(named) as usize]);
-            return tally.add(marks[mark(other) as usize]);
-        }
-    };
-    tally.add(if alerting.reference == a.reference { seen[1] } else { seen[2] });
-    let held = alerting.aux == Aux::Held;
-    tally.add(if held { Seen::TransferAlertingHeld } else { Seen::TransferAlertingIdle });
-    let marks = [Seen::NotifyUnknown, Seen::NotifyGiven, Seen::NotifyWithheld];
-    tally.add(marks[mark(active) as usize]);
 }

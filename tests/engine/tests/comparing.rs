@@ -1,9 +1,9 @@
-//! The comparison accepts the Drops in either order and no other difference.
+//! The comparison accepts no difference at all.
 
 mod common;
 
 use common::ID;
-use engine::board::Reference;
+use engine::board::{LinkId, Reference};
 use engine::compare::compare;
 use engine::event::{event, event_on_sound};
 use engine::load;
@@ -14,8 +14,8 @@ use engine::records;
 use engine::rng::Rng;
 use engine::tally::Tally;
 
-/// The text of a log with one transfer.
-fn transfer() -> Vec<u8> {
+/// The text of a log with calls 1 and 2, of which 1 is held, and one transfer.
+fn transfer_by(named: u16, component: &[u8]) -> Vec<u8> {
     let mut log = vec![1, 1];
     for reference in [1, 2] {
         log.extend(records::open(Reference(reference), reference as u32, 0, 0, b"12"));
@@ -23,21 +23,32 @@ fn transfer() -> Vec<u8> {
     }
     log.extend(records::hold(Reference(1), 1));
     log.extend(records::hold(Reference(1), 2));
-    log.extend(records::facility(Reference(1), &records::execute(ID)));
+    log.extend(records::facility(Reference(3 - named), &records::link_request(ID)));
+    log.extend(records::facility(Reference(named), component));
     let mut text = Vec::new();
     play(&log, &mut text);
     text
 }
 
+fn transfer() -> Vec<u8> {
+    transfer_by(1, &records::execute(ID))
+}
+
+/// The line of the transfer differs, whichever of the two texts is the expected one.
 #[test]
-fn drops_in_either_order() {
-    let text = String::from_utf8(transfer()).unwrap();
-    let swapped = text.replace("830001830002", "830002830001");
-    assert_ne!(text, swapped);
-    assert_eq!(compare(text.as_bytes(), swapped.as_bytes()), Ok(()));
-    assert_eq!(compare(swapped.as_bytes(), text.as_bytes()), Ok(()));
-    let twice = text.replace("830001830002", "830001830001");
-    assert_eq!(compare(text.as_bytes(), twice.as_bytes()).unwrap_err().line, 8);
+fn drops_in_the_other_order_are_a_difference() {
+    for component in [records::execute(ID), records::explicit_link(ID, LinkId(0))] {
+        for (named, drops) in [(1, "830001830002"), (2, "830002830001")] {
+            let text = String::from_utf8(transfer_by(named, &component)).unwrap();
+            assert_eq!(text.matches(drops).count(), 1, "{text}");
+            let (first, second) = drops.split_at(6);
+            for other in [[second, first], [first, first], [second, second]] {
+                let changed = text.replace(drops, &other.concat());
+                assert_eq!(compare(text.as_bytes(), changed.as_bytes()).unwrap_err().line, 9);
+                assert_eq!(compare(changed.as_bytes(), text.as_bytes()).unwrap_err().line, 9);
+            }
+        }
+    }
 }
 
 #[test]
@@ -48,19 +59,21 @@ fn every_octet_counts() {
         changed[place] ^= 1;
         assert!(compare(&text, &changed).is_err(), "octet {place}");
         assert!(compare(&text, &text[..place]).is_err());
+        assert!(compare(&text[..place], &text).is_err());
     }
+    assert_eq!(compare(&text, &text), Ok(()));
     assert!(compare(&text, &[text.as_slice(), b"\n"].concat()).is_err());
 }
 
 #[test]
 fn tells_in_the_other_order_are_a_difference() {
     let text = transfer();
-    let reply = text.windows(3).position(|part| part == b" 81").unwrap() + 1;
+    let reply = text.windows(3).rposition(|part| part == b" 81").unwrap() + 1;
     // Reply and Drops take 42 octets, each Tell 25.
     let mut swapped = text.clone();
     swapped[reply + 84..reply + 184].rotate_left(50);
     assert_ne!(text, swapped);
-    assert_eq!(compare(&text, &swapped).unwrap_err().line, 8);
+    assert_eq!(compare(&text, &swapped).unwrap_err().line, 9);
 }
 
 #[test]

@@ -2,34 +2,11 @@
 
 mod common;
 
-use common::{error, Desk, DONE, ID, NOT_ASSIGNED};
+use common::{dropped, error, reply, tell, Desk, DONE, ID, NOT_ASSIGNED};
 use engine::board::{LinkId, Reference, Row, Standing};
 use engine::records::{
     answer, execute, explicit, explicit_link, facility, long_integer, open, progress, release,
 };
-
-fn tell(leg: u32, message: u8, description: u8, mark: u8, request: u8, digits: &[u8]) -> Vec<u8> {
-    let mut octets = vec![0x82];
-    octets.extend(leg.to_be_bytes());
-    octets.extend([message, description, mark, request, digits.len() as u8]);
-    octets.extend(digits);
-    octets.resize(25, 0);
-    octets
-}
-
-fn reply(reference: u16, component: &[u8]) -> Vec<u8> {
-    let mut octets = vec![0x81];
-    octets.extend(reference.to_be_bytes());
-    octets.push(component.len() as u8);
-    octets.extend(component);
-    octets.resize(36, 0);
-    octets
-}
-
-fn dropped(first: u16, second: u16) -> Vec<u8> {
-    let ([a, b], [c, d]) = (first.to_be_bytes(), second.to_be_bytes());
-    vec![0x83, a, b, 0x83, c, d]
-}
 
 /// A call to leg 100 + reference with that presentation and those digits.
 fn party(desk: &mut Desk, reference: u16, state: u8, presentation: u8, digits: &[u8]) {
@@ -88,6 +65,47 @@ fn one_alerting_named_alerting_and_held() {
         [reply(2, DONE), dropped(2, 1), tell(102, 1, 0xEA, 0, 0, b""), tell(101, 0, 0xE9, 0, 1, b"")];
     assert_eq!(octets, expected.concat());
     assert_eq!(desk.ok(&answer(102)), tell(101, 0, 0xEA, 2, 0, b""));
+}
+
+/// Reference, leg and call state of two calls in the lowest rows.
+type Calls = [(u16, u32, u8); 2];
+
+/// The octets of the transfer of two calls; `held` and `named` are places.
+fn transfer(calls: Calls, held: usize, named: usize, by_link: bool) -> Vec<u8> {
+    let mut desk = Desk::new(1, 1);
+    for (reference, leg, state) in calls {
+        desk.ok(&open(Reference(reference), leg, 0, 0, b"21"));
+        desk.ok(&progress(Reference(reference), state));
+    }
+    hold(&mut desk, calls[held].0);
+    let link = desk.link(calls[1 - named].0).unwrap();
+    let component = if by_link { explicit_link(ID, link) } else { execute(ID) };
+    desk.ok(&facility(Reference(calls[named].0), &component))
+}
+
+/// Neither row, reference, leg, state nor operation has a say in it.
+#[test]
+fn drops_and_tells_begin_with_the_named_call() {
+    let pairs = [[(7, 30), (9, 40)], [(9, 40), (7, 30)], [(7, 40), (9, 30)], [(0x8001, 30), (2, 40)]];
+    for [(a, leg_a), (b, leg_b)] in pairs {
+        for [state_a, state_b] in [[10, 10], [4, 10], [10, 4]] {
+            let calls = [(a, leg_a, state_a), (b, leg_b, state_b)];
+            for (held, by_link) in [(0, false), (0, true), (1, false), (1, true)] {
+                let named_lower = transfer(calls, held, 0, by_link);
+                assert_eq!(named_lower[36..42], dropped(a, b));
+                assert_eq!((told(&named_lower[42..]), told(&named_lower[67..])), (leg_a, leg_b));
+                let named_higher = transfer(calls, held, 1, by_link);
+                assert_eq!(named_higher[36..42], dropped(b, a));
+                assert_eq!((told(&named_higher[42..]), told(&named_higher[67..])), (leg_b, leg_a));
+            }
+        }
+    }
+}
+
+/// The leg of the Tell that stands first in the octets.
+fn told(octets: &[u8]) -> u32 {
+    assert_eq!(octets[0], 0x82);
+    u32::from_be_bytes([octets[1], octets[2], octets[3], octets[4]])
 }
 
 #[test]

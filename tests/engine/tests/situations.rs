@@ -2,7 +2,7 @@
 
 mod common;
 
-use common::{error, Desk, DONE, ID, NOT_ASSIGNED};
+use common::{dropped, error, reply, tell, Desk, DONE, ID, NOT_ASSIGNED};
 use engine::board::{Aux, Board, Call, CallState, LinkId, Reference};
 use engine::component::{Operation, LINK_REQUEST};
 use engine::event::event;
@@ -163,7 +163,10 @@ fn one_held_and_two_idle() {
     let before = desk.board.clone();
     assert_eq!(desk.ask(1, &records::execute(ID)), error(7));
     assert_eq!(desk.board, before);
-    assert_eq!(desk.ask(3, &records::execute(ID)), DONE);
+    let octets = desk.ok(&records::facility(Reference(3), &records::execute(ID)));
+    // The idle call is the named one: its Drop comes first, though its row is the higher one.
+    let tells = [tell(103, 0, 0xEA, 1, 1, b"001"), tell(101, 0, 0xEA, 1, 1, b"003")];
+    assert_eq!(octets, [reply(3, DONE), dropped(3, 1), tells.concat()].concat());
     let (_, counts) = count(&desk.board.rows);
     assert_eq!((counts.legs, counts.pairs, counts.links), (3, 1, 0));
 }

@@ -94,6 +94,32 @@ pub fn reply_component(octets: &[u8], reference: u16) -> Vec<u8> {
     octets[4..4 + count].to_vec()
 }
 
+/// A Tell record.
+pub fn tell(leg: u32, message: u8, description: u8, mark: u8, request: u8, digits: &[u8]) -> Vec<u8> {
+    let mut octets = vec![0x82];
+    octets.extend(leg.to_be_bytes());
+    octets.extend([message, description, mark, request, digits.len() as u8]);
+    octets.extend(digits);
+    octets.resize(25, 0);
+    octets
+}
+
+/// A Reply record.
+pub fn reply(reference: u16, component: &[u8]) -> Vec<u8> {
+    let mut octets = vec![0x81];
+    octets.extend(reference.to_be_bytes());
+    octets.push(component.len() as u8);
+    octets.extend(component);
+    octets.resize(36, 0);
+    octets
+}
+
+/// Two Drop records.
+pub fn dropped(first: u16, second: u16) -> Vec<u8> {
+    let ([a, b], [c, d]) = (first.to_be_bytes(), second.to_be_bytes());
+    vec![0x83, a, b, 0x83, c, d]
+}
+
 pub fn error(value: u8) -> Vec<u8> {
     vec![0xA3, 6, 2, 1, 5, 2, 1, value]
 }
