@@ -2,8 +2,8 @@
 use Prim.Native.Nat.{ℕ, zero, suc, _+_, _-_, _*_, _/_, _%_, _≤_, _<_}
 use native.Mathlib.Omega.{arith}
 use native.Mathlib.Decide.{ℕ-discrete, decLt}
-use mathlib.Core.Path.{_≡_, refl, sym, ap, _∙_}
-use mathlib.Core.Bool.{true, false}
+use mathlib.Core.Path.{_≡_, refl, sym, ap, ap₂, _∙_}
+use mathlib.Core.Bool.{true, false, _||_}
 use lib.Dec.{T, eqb}
 use lib.IntN.{ℤ, pos, negsuc, natAbs, _+ℤ_, _-ℤ_}
 use lib.Signed.{mag, leZ, nonNeg}
@@ -13,7 +13,7 @@ use borrow.Author.Tests.{lt-ltb, le-ltb, eq-eqb, ne-eqb}
 use Rattle.octets.specs.declared.IntegerOctets.the-variants.{One, Two}
 use Rattle.octets.specs.declared.Integer.{Integer}
 use Rattle.octets.specs.declared.LinkId.{LinkId}
-use Rattle.octets.specs.Numbers.{signed, bits, integerOf, fewest, nextLinkId, sameInteger}
+use Rattle.octets.specs.Numbers.{signed, bits, integerOf, firstNine, padded, fewest, nextLinkId, sameInteger}
 
 no-way : {A : Type 0} → false ≡ true → A
 no-way e = absurd (let z : _≡_ {A = ℕ} 0 1 = cc in omega arith)
@@ -147,3 +147,68 @@ read-neg n f (no h) =
 pub integer-fewest : (z : ℤ) → mag z < 32768 → integerOf (fewest z) ≡ z
 integer-fewest (pos n) f = read-pos n f (decLt n 128)
 integer-fewest (negsuc n) f = read-neg n f (decLt n 128)
+
+-- ---- the fewest octets and padding
+pub unpadded : (a b : ℕ) → 0 < firstNine a b → firstNine a b < 511 → padded (Two a b) ≡ false
+unpadded a b h k =
+    let e : firstNine a b ≡ 0 → ⊥ = λ (q : firstNine a b ≡ 0). omega arith in
+    let f : firstNine a b ≡ 511 → ⊥ = λ (q : firstNine a b ≡ 511). omega arith in
+    simp (ne-eqb (firstNine a b) 0 e, ne-eqb (firstNine a b) 511 f)
+
+fewest-pos : (n : ℕ) → n < 32768 → Dec (n < 128) → padded (fewest (pos n)) ≡ false
+fewest-pos n f (yes h) = simp (lt-ltb n 128 h)
+fewest-pos n f (no h) =
+    let e : 128 ≤ n = omega arith in
+    rw (le-ltb n 128 e) (unpadded (n / 256) (n % 256) (omega arith) (omega arith))
+
+fewest-neg : (n : ℕ) → n < 32768 → Dec (n < 128) → padded (fewest (negsuc n)) ≡ false
+fewest-neg n f (yes h) = simp (lt-ltb n 128 h)
+fewest-neg n f (no h) =
+    let e : 128 ≤ n = omega arith in
+    rw (le-ltb n 128 e) (unpadded ((65535 - n) / 256) ((65535 - n) % 256) (omega arith) (omega arith))
+
+-- what is written in the fewest octets is not padded, from -32768 to 32767
+pub fewest-unpadded : (z : ℤ) → mag z < 32768 → padded (fewest z) ≡ false
+fewest-unpadded (pos n) f = fewest-pos n f (decLt n 128)
+fewest-unpadded (negsuc n) f = fewest-neg n f (decLt n 128)
+
+-- one octet is the fewest that say its integer
+pub one-fewest : (a : ℕ) → a < 256 → One a ≡ fewest (integerOf (One a))
+one-fewest a f = go (decLt a 128)
+  where
+    go : Dec (a < 128) → One a ≡ fewest (integerOf (One a))
+    go (yes h) = simp (lt-ltb a 128 h)
+    go (no h) =
+        let e : 128 ≤ a = omega arith in
+        let k : 255 - a < 128 = omega arith in
+        simp (le-ltb a 128 e, lt-ltb (255 - a) 128 k) (ap One (omega arith))
+
+bits-signed : (n : ℕ) → n < 65536 → bits (signed n) ≡ n
+bits-signed n f = go (decLt n 32768)
+  where
+    go : Dec (n < 32768) → bits (signed n) ≡ n
+    go (yes h) = simp (lt-ltb n 32768 h)
+    go (no h) =
+        let e : 32768 ≤ n = omega arith in
+        simp (le-ltb n 32768 e) (omega arith)
+
+-- the first nine bits are neither nine zeros nor nine ones
+neither : (n : ℕ) → n ≤ 511 → (eqb n 0 || eqb n 511) ≡ false → (0 < n) × (n < 511)
+neither n f p = go (ℕ-discrete n 0) (ℕ-discrete n 511)
+  where
+    go : Dec (n ≡ 0) → Dec (n ≡ 511) → (0 < n) × (n < 511)
+    go (yes e) d = no-way (sym p ∙ simp (eq-eqb n 0 e))
+    go (no h) (yes e) = no-way (sym p ∙ simp (ne-eqb n 0 h, eq-eqb n 511 e))
+    go (no h) (no k) = (omega arith, omega arith)
+
+-- and so are two octets that are not padded
+pub two-fewest : (a b : ℕ) → a < 256 → b < 256 → padded (Two a b) ≡ false → Two a b ≡ fewest (integerOf (Two a b))
+two-fewest a b f g p =
+    let h = neither (firstNine a b) (omega arith) p in
+    let n = a * 256 + b in
+    let e : bits (signed n) ≡ n = bits-signed n (omega arith) in
+    let low : 128 ≤ bits (signed n) = rw e (omega (arith, h .0)) in
+    let high : bits (signed n) < 65408 = rw e (omega (arith, h .1)) in
+    let x : a ≡ bits (signed n) / 256 = rw e (omega arith) in
+    let y : b ≡ bits (signed n) % 256 = rw e (omega arith) in
+    ap₂ Two x y ∙ fewest-two (signed n) low high

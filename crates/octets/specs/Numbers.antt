@@ -1,11 +1,16 @@
 -- Numbers as octets, and LinkIds (document 01, "The board", "Event records", "Reading a component", "Serving it").
-use Prim.Native.Nat.{ℕ, suc, _+_, _-_, _*_, _/_, _%_, _≤_}
-use mathlib.Core.Bool.{Bool, false, cond}
+use Prim.Native.Nat.{ℕ, suc, _+_, _-_, _*_, _/_, _%_, _≤_, _<_}
+use mathlib.Core.Bool.{Bool, false, _||_, cond}
 use mathlib.Core.List.{List, [], _∷_, _++_}
 use lib.Dec.{eqb, ltb}
 use lib.IntN.{ℤ, pos, negsuc, sucℤ}
 use Rattle.octets.specs.declared.IntegerOctets.{IntegerOctets}
 use Rattle.octets.specs.declared.IntegerOctets.the-variants.{One, Two}
+
+-- octets: numbers below 256, as their type u8 has it
+abbrev pub AreOctets : List ℕ → Type 0
+AreOctets [] = Unit {0}
+AreOctets (o ∷ os) = (o < 256) × AreOctets os
 
 -- "numbers high octet first": a number in two octets, and in four
 abbrev pub two : ℕ → List ℕ
@@ -35,6 +40,15 @@ bits (negsuc n) = 65535 - n
 abbrev pub integerOf : IntegerOctets → ℤ
 integerOf (One a) = cond (ltb a 128) (pos a) (negsuc (255 - a))
 integerOf (Two a b) = signed (a * 256 + b)
+
+-- the first nine bits of two octets: the first octet, and the top bit of the second
+abbrev pub firstNine : ℕ → ℕ → ℕ
+firstNine a b = a * 2 + b / 128
+
+-- "X.209 forbids a two-octet integer whose first nine bits are all equal" (document 02, slip 4): nine zeros, or nine ones
+abbrev pub padded : IntegerOctets → Bool
+padded (One a) = false
+padded (Two a b) = eqb (firstNine a b) 0 || eqb (firstNine a b) 511
 
 -- two integers are the same
 abbrev pub sameInteger : ℤ → ℤ → Bool

@@ -1,6 +1,6 @@
 // Numbers as octets: call references, LinkIds, invoke identifiers, and the integers of a component.
 ghost use mathlib.Core.Path.{_≡_};
-ghost use Rattle.octets.specs.Numbers.{signed, bits, integerOf, fewest, nextLinkId, sameInteger};
+ghost use Rattle.octets.specs.Numbers.{signed, bits, integerOf, padded, fewest, nextLinkId, sameInteger};
 
 // A call reference: unsigned; its low 15 bits are not all zero where a board is sound.
 pub struct CallReference(pub u16);
@@ -18,6 +18,21 @@ pub struct Integer(pub i16);
 pub enum IntegerOctets {
     One(u8),
     Two(u8, u8),
+}
+
+impl IntegerOctets {
+    // Whether two octets say what the second alone would: their first nine bits are all equal.
+    pub fn is_padded(self) -> bool
+        ensures { λ r. ⌜ r ≡ padded self ⌝ }
+    {
+        match self {
+            IntegerOctets::One(_) => false,
+            IntegerOctets::Two(a, b) => {
+                let first_nine = (a as u16) * 2 + (b as u16) / 128;
+                (first_nine == 0) | (first_nine == 511)
+            }
+        }
+    }
 }
 
 impl LinkId {
