@@ -4,7 +4,7 @@ use native.Mathlib.Omega.{arith}
 use mathlib.Core.Path.{_≡_, refl, sym, ap, _∙_}
 use mathlib.Core.List.{List, [], _∷_}
 use mathlib.Core.Bool.{Bool, true, false, _&&_, cond}
-use mathlib.Core.Option.{none, some}
+use mathlib.Core.Option.{Option, none, some}
 use lib.Dec.{eqb, leb}
 use lib.ListN.{length, getD, take, drop, length-drop}
 use lib.Seq.{length-take-le}
@@ -13,6 +13,7 @@ use borrow.Author.Tests.{eq-eqb, ne-eqb, le-leb}
 use Rattle.octets.specs.declared.IntegerOctets.{IntegerOctets}
 use Rattle.octets.specs.declared.IntegerOctets.the-variants.{One, Two}
 use Rattle.octets.specs.Lists.{sameOctets}
+use Rattle.octets.specs.Numbers.{padded}
 use Rattle.component.specs.declared.Reading.the-variants.{Ignored, Rejected}
 use Rattle.component.specs.declared.Reject.the-variants.{Null}
 use Rattle.component.specs.declared.elements.FirstElement.{FirstElement}
@@ -22,7 +23,7 @@ use Rattle.component.specs.declared.values.FirstInteger.the-variants as 
 use Rattle.component.specs.declared.values.FirstObject.{FirstObject}
 use Rattle.component.specs.declared.values.FirstObject.the-variants as object
 use Rattle.component.specs.Elements.{Element, wholeElements}
-use Rattle.component.specs.Reading.{oneOrTwo, integerIn, objectIn, restOf, ectObject, invokeReading, framedReading, reading}
+use Rattle.component.specs.Reading.{oneOrTwo, integerOctetsIn, unlessPadded, objectIn, restOf, ectObject, invokeReading, framedReading, reading}
 use Rattle.component.specs.Code.Readers.{FirstElementRead, IntegerRead, ObjectRead}
 use Rattle.component.proofs.ElementLaws.{found, ends}
 use Rattle.octets.proofs.Places.{rest}
@@ -48,24 +49,24 @@ neither (a ∷ b ∷ []) p q = absurd (q refl)
 neither (a ∷ b ∷ d ∷ s) p q = refl
 
 -- what an element e of s is, where its tag and its length are known
-pub no-integer : {s : List ℕ} {e : Element} → none ≡ integerIn e → IntegerRead s integer.Other e
+pub no-integer : {s : List ℕ} {e : Element} {o : Option IntegerOctets} → none ≡ o → IntegerRead s integer.Other e o
 no-integer q = record { is = q; rest = refl; within = omega arith }
 
 pub no-object : {s : List ℕ} {e : Element} → none ≡ objectIn e → ObjectRead s object.Other e
 no-object q = record { is = q; rest = refl; within = omega arith }
 
 module _ {s : List ℕ} {r : FirstElement} {e : Element} (f : FirstElementRead s r e) {tag n : ℕ} (q : r ≡ first.Whole tag n) where
-  pub one : tag ≡ 2 → n ≡ 1 → IntegerRead s (integer.Whole (One (getD s 2 0)) 3) e
+  pub one : tag ≡ 2 → n ≡ 1 → IntegerRead s (integer.Whole (One (getD s 2 0)) 3) e (integerOctetsIn e)
   one t h =
       let w : n + 2 ≤ length s = ends f q in
       record { is = rw (found f q, eq-eqb tag 2 t, h, first-one s (omega arith)); rest = rw (found f q, h); within = omega arith }
 
-  pub two : tag ≡ 2 → n ≡ 2 → IntegerRead s (integer.Whole (Two (getD s 2 0) (getD s 3 0)) 4) e
+  pub two : tag ≡ 2 → n ≡ 2 → IntegerRead s (integer.Whole (Two (getD s 2 0) (getD s 3 0)) 4) e (integerOctetsIn e)
   two t h =
       let w : n + 2 ≤ length s = ends f q in
       record { is = rw (found f q, eq-eqb tag 2 t, h, first-two s (omega arith)); rest = rw (found f q, h); within = omega arith }
 
-  pub longer : tag ≡ 2 → (n ≡ 1 → ⊥) → (n ≡ 2 → ⊥) → IntegerRead s integer.Other e
+  pub longer : tag ≡ 2 → (n ≡ 1 → ⊥) → (n ≡ 2 → ⊥) → IntegerRead s integer.Other e (integerOctetsIn e)
   longer t h k =
       let w : n + 2 ≤ length s = ends f q in
       let l : length (take n (drop 2 s)) ≡ n = length-take-le n (drop 2 s) (omega (arith, length-drop 2 s)) in
@@ -81,8 +82,8 @@ module _ {s : List ℕ} {r : FirstElement} {e : Element} (f : FirstElementRead s
   no-contents t h = no-object (rw (found f q, h, eq-eqb tag 6 t))
 
 -- ---- what a reader said, in the parts that the code passes on
-module _ {s : List ℕ} {r : FirstInteger} {e : Element} (f : IntegerRead s r e) where
-  pub integer-is : {o : IntegerOctets} {n : ℕ} → r ≡ integer.Whole o n → integerIn e ≡ some o
+module _ {s : List ℕ} {r : FirstInteger} {e : Element} {i : Option IntegerOctets} (f : IntegerRead s r e i) where
+  pub integer-is : {o : IntegerOctets} {n : ℕ} → r ≡ integer.Whole o n → i ≡ some o
   integer-is q = sym (f .is) ∙ rw q
 
   pub integer-rest : {o : IntegerOctets} {n : ℕ} → r ≡ integer.Whole o n → restOf e ≡ take (length s - n) (drop n s)
@@ -91,8 +92,18 @@ module _ {s : List ℕ} {r : FirstInteger} {e : Element} (f : IntegerRead s r e)
   pub integer-ends : {o : IntegerOctets} {n : ℕ} → r ≡ integer.Whole o n → n ≤ length s
   integer-ends q = rw q at (f .within)
 
-  pub integer-none : r ≡ integer.Other → integerIn e ≡ none
+  pub integer-none : r ≡ integer.Other → i ≡ none
   integer-none q = sym (f .is) ∙ rw q
+
+  -- and where what is padded counts as none
+  pub kept : {o : IntegerOctets} {n : ℕ} → r ≡ integer.Whole o n → padded o ≡ false → IntegerRead s (integer.Whole o n) e (unlessPadded i)
+  kept {o} {n} q p = record { is = rw (integer-is q, p); rest = rw q at (f .rest); within = integer-ends q }
+
+  pub dropped : {o : IntegerOctets} {n : ℕ} → r ≡ integer.Whole o n → padded o ≡ true → IntegerRead s integer.Other e (unlessPadded i)
+  dropped q p = no-integer (rw (integer-is q, p))
+
+  pub still-none : r ≡ integer.Other → IntegerRead s integer.Other e (unlessPadded i)
+  still-none q = no-integer (rw (integer-none q))
 
 module _ {s : List ℕ} {r : FirstObject} {e : Element} (f : ObjectRead s r e) where
   pub object-is : {n : ℕ} → r ≡ object.Whole n → objectIn e ≡ some (take (n + 2 - 2) (drop 2 s))

@@ -3,6 +3,7 @@ use crate::elements::FirstElement;
 use crate::elements::first_element;
 use octets::IntegerOctets;
 ghost use Rattle.component.specs.Elements.{firstElement};
+ghost use Rattle.component.specs.Reading.{integerOctetsIn, integerIn};
 ghost use Rattle.component.specs.Code.Readers.{IntegerRead, ObjectRead};
 
 // The first element as an integer.
@@ -19,9 +20,10 @@ pub enum FirstObject {
     Other,
 }
 
-// An integer has one or two octets of contents.
-pub fn read_integer(s: &[u8]) -> FirstInteger
-    ensures { λ r. ⌜ IntegerRead (now (s .entry)) r (firstElement (now (s .entry))) ⌝ }
+// One or two octets of contents, padded or not.
+pub fn read_integer_octets(s: &[u8]) -> FirstInteger
+    ensures { λ r. ⌜ IntegerRead (now (s .entry)) r (firstElement (now (s .entry)))
+        (integerOctetsIn (firstElement (now (s .entry)))) ⌝ }
 {
     let FirstElement::Whole { tag, len } = first_element(s) else {
         return FirstInteger::Other;
@@ -42,6 +44,20 @@ pub fn read_integer(s: &[u8]) -> FirstInteger
         };
     }
     FirstInteger::Other
+}
+
+// An integer of the required form: what is padded is none.
+pub fn read_integer(s: &[u8]) -> FirstInteger
+    ensures { λ r. ⌜ IntegerRead (now (s .entry)) r (firstElement (now (s .entry)))
+        (integerIn (firstElement (now (s .entry)))) ⌝ }
+{
+    let FirstInteger::Whole { octets, next } = read_integer_octets(s) else {
+        return FirstInteger::Other;
+    };
+    if octets.is_padded() {
+        return FirstInteger::Other;
+    }
+    FirstInteger::Whole { octets, next }
 }
 
 // An object identifier has one octet of contents or more.

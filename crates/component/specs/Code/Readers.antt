@@ -15,7 +15,7 @@ use Rattle.component.specs.declared.values.FirstInteger.the-variants as 
 use Rattle.component.specs.declared.values.FirstObject.{FirstObject}
 use Rattle.component.specs.declared.values.FirstObject.the-variants as object
 use Rattle.component.specs.Elements.{Element, Bad, Whole, constructed}
-use Rattle.component.specs.Reading.{integerIn, objectIn, restOf}
+use Rattle.component.specs.Reading.{objectIn, restOf}
 
 -- the element at the front of s: two octets, contents, and the rest
 abbrev pub elementOf : FirstElement → List ℕ → Element
@@ -55,9 +55,9 @@ abbrev pub integerRest : FirstInteger → List ℕ → List ℕ → List ℕ
 integerRest (integer.Whole o next) s other = drop next s
 integerRest integer.Other s other = other
 
--- r says what integer the first element e of s is
-pub record IntegerRead (s : List ℕ) (r : FirstInteger) (e : Element) : Type 0 where
-  pub is : integerOctets r ≡ integerIn e
+-- r says the integer o that the first element e of s is read as
+pub record IntegerRead (s : List ℕ) (r : FirstInteger) (e : Element) (o : Option IntegerOctets) : Type 0 where
+  pub is : integerOctets r ≡ o
   pub rest : integerRest r s (restOf e) ≡ restOf e
   pub within : integerEnd r ≤ length s
 

@@ -2,61 +2,38 @@
 use borrow.Author.Needs.{needs}
 use Rattle.component.proofs.values.read_integer.Statement.{statement}
 use Rattle.component.proofs.values.read_integer.Tie as tie
-use Prim.Native.Nat.{_+_, _≤_}
-use native.Mathlib.Omega.{arith}
-use lib.ListN.{length}
-use borrow.Author.Tests.{ne-eqb}
-use Rattle.component.proofs.ElementLaws.{found, ends, missing}
-use Rattle.component.proofs.ReadingLaws.{no-integer, one, two, longer}
+use mathlib.Core.Path.{sym, _∙_}
+use Rattle.component.proofs.ReadingLaws.{still-none, dropped, kept}
 
-within : (c : tie.After-tag) → c .tag .given .0 .1 .0 + 2 ≤ length (c .before .before .before .before .args .s .now)
-within c = ends (c .before .before .first-element .ensures) (c .tag .given .1)
+read-integer-octets-requires : tie.Need-read-integer-octets-requires
+read-integer-octets-requires c κs = search needs
 
-first-element-requires : tie.Need-first-element-requires
-first-element-requires c κs = search needs
-
-enum-known-tag : tie.Need-enum-known-tag
-enum-known-tag c = search needs
+enum-known-octets : tie.Need-enum-known-octets
+enum-known-octets c = search needs
 
 enum-told : tie.Need-enum-told
 enum-told c = search needs
 
 returns : tie.Need-returns
-returns c = no-integer (rw (missing (c .before .before .first-element .ensures) (c .enum-told .given .1)))
+returns c = still-none (c .before .before .read-integer-octets .ensures) (c .enum-told .given .1)
+
+is-padded-requires : tie.Need-is-padded-requires
+is-padded-requires c κs = search needs
 
 returns-2 : tie.Need-returns-2
-returns-2 c = no-integer (rw (found (c .before .before .before .before .first-element .ensures) (c .before .before .tag .given .1), ne-eqb _ _ (c .if1 .taken)))
-
-shared-slice-read-t7 : tie.Need-shared-slice-read-t7
-shared-slice-read-t7 c = omega (arith, within (c .before .before .before .before))
+returns-2 c = dropped (c .before .before .before .before .before .read-integer-octets .ensures) (c .before .before .before .octets .given .1) (sym (c .before .is-padded .ensures) ∙ c .if1 .taken)
 
 returns-3 : tie.Need-returns-3
-returns-3 c = one (c .before .before .before .before .before .before .first-element .ensures) (c .before .before .before .before .tag .given .1) (c .before .before .if1 .left) (c .before .if2 .taken)
-
-shared-slice-read-t10 : tie.Need-shared-slice-read-t10
-shared-slice-read-t10 c = omega (arith, within (c .before .before .before .before .before))
-
-shared-slice-read-t12 : tie.Need-shared-slice-read-t12
-shared-slice-read-t12 c = omega (arith, within (c .before .before .before .before .before .before))
-
-returns-4 : tie.Need-returns-4
-returns-4 c = two (c .before .before .before .before .before .before .before .before .first-element .ensures) (c .before .before .before .before .before .before .tag .given .1) (c .before .before .before .before .if1 .left) (c .before .before .if3 .taken)
-
-returns-5 : tie.Need-returns-5
-returns-5 c = longer (c .before .before .before .before .before .before .first-element .ensures) (c .before .before .before .before .tag .given .1) (c .before .before .if1 .left) (c .before .if2 .left) (c .if3 .left)
+returns-3 c = kept (c .before .before .before .before .before .read-integer-octets .ensures) (c .before .before .before .octets .given .1) (sym (c .before .is-padded .ensures) ∙ c .if1 .left)
 
 pub read-integer-spec : {M : Type 1} → statement M
 read-integer-spec =
     tie.close
     (tie.spec
-    first-element-requires
-    enum-known-tag
+    read-integer-octets-requires
+    enum-known-octets
     enum-told
     returns
+    is-padded-requires
     returns-2
-    shared-slice-read-t7
-    returns-3
-    shared-slice-read-t10
-    shared-slice-read-t12
-    returns-4
-    returns-5)
+    returns-3)
