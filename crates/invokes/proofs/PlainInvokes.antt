@@ -1,4 +1,4 @@
--- Octets that are read as an invoke, with shortest integers and nothing behind, are the octets of that invoke. Assumes nothing.
+-- Octets that are read as an invoke, with nothing behind, are the octets of that invoke. Assumes nothing.
 use Prim.Native.Nat.{ℕ, _%_, _≤_}
 use native.Mathlib.Omega.{arith}
 use mathlib.Core.Path.{_≡_, refl, sym, ap, ap₂, _∙_, subst}
@@ -13,7 +13,8 @@ use borrow.Author.Tests.{leb-true}
 use Rattle.octets.specs.declared.IntegerOctets.{IntegerOctets}
 use Rattle.octets.specs.declared.IntegerOctets.the-variants.{One, Two}
 use Rattle.octets.specs.Lists.{sameOctets}
-use Rattle.octets.specs.Numbers.{integerOf, fewest, sameInteger}
+use Rattle.octets.specs.Numbers.{AreOctets, integerOf, padded, fewest, sameInteger}
+use Rattle.octets.proofs.Laws.{one-fewest, two-fewest}
 use Rattle.octets.proofs.Lists.{left, right, eqb-eq}
 use Rattle.octets.proofs.SameInteger.{sameInteger-eq}
 use Rattle.component.specs.declared.Operation.{Operation}
@@ -23,11 +24,11 @@ use Rattle.component.specs.declared.Reject.{Reject}
 use Rattle.component.specs.declared.Reject.the-variants.{Null, Invoke}
 use Rattle.component.specs.Answers.{element, contentsOf, integer}
 use Rattle.component.specs.Elements.{Element, Bad, Whole, validHead, firstElement, wholeElements}
-use Rattle.component.specs.Reading.{oneOrTwo, integerIn, objectIn, restOf, ectObject}
+use Rattle.component.specs.Reading.{oneOrTwo, integerOctetsIn, integerIn, unlessPadded, objectIn, restOf, ectObject}
 use Rattle.component.specs.Reading.{linkIdReading, globalReading, objectReading, localReading, operationReading}
 use Rattle.component.specs.Reading.{identifiedReading, identifierReading, invokeReading, framedReading, reading}
 use Rattle.invokes.specs.Invokes.{operationOctets, invokeOctets}
-use Rattle.invokes.specs.RoundTrip.{lookedAt, behind, Shortest, ShortestAmong, Plain}
+use Rattle.invokes.specs.RoundTrip.{lookedAt, behind, NothingBehind}
 
 no-option : {A B : Type 0} {x : A} → none ≡ some x → B
 no-option e = absurd (let z : _≡_ {A = ℕ} 0 1 = cc in omega arith)
@@ -55,10 +56,19 @@ one-or-two (a ∷ []) o q = let e : One a ≡ o = cc in rw (← e)
 one-or-two (a ∷ b ∷ []) o q = let e : Two a b ≡ o = cc in rw (← e)
 one-or-two (a ∷ b ∷ d ∷ c) o q = no-option q
 
-integer-front : (s : List ℕ) (o : IntegerOctets) → integerIn (firstElement s) ≡ some o → s ≡ integer o ++ restOf (firstElement s)
-integer-front s o q = go (firstElement s) refl q
+-- an integer of the required form has those octets, and is not padded
+unpadded-is : (x : Option IntegerOctets) (o : IntegerOctets) → unlessPadded x ≡ some o → (x ≡ some o) × (padded o ≡ false)
+unpadded-is none o q = no-option q
+unpadded-is (some v) o q = go (padded v) refl q
   where
-    go : (e : Element) → firstElement s ≡ e → integerIn e ≡ some o → s ≡ integer o ++ restOf e
+    go : (b : Bool) → padded v ≡ b → cond b none (some v) ≡ some o → (some v ≡ some o) × (padded o ≡ false)
+    go true p q = no-option q
+    go false p q = let e : v ≡ o = cc in (q, sym (ap padded e) ∙ p)
+
+integer-front : (s : List ℕ) (o : IntegerOctets) → integerIn (firstElement s) ≡ some o → s ≡ integer o ++ restOf (firstElement s)
+integer-front s o q = go (firstElement s) refl (unpadded-is (integerOctetsIn (firstElement s)) o q .0)
+  where
+    go : (e : Element) → firstElement s ≡ e → integerOctetsIn e ≡ some o → s ≡ integer o ++ restOf e
     go Bad f q = no-option q
     go (Whole tag c r) f q = tagged (eqb tag 2) refl q
       where
@@ -82,9 +92,25 @@ object-front s x q = go (firstElement s) refl q
 
 -- ---- the contents of an invoke, by what was found in them
 
-shortest-is : (x : Option IntegerOctets) (o : IntegerOctets) → x ≡ some o → Shortest x → o ≡ fewest (integerOf o)
-shortest-is none o q h = no-option q
-shortest-is (some p) o q h = let e : p ≡ o = cc in subst (λ (y : IntegerOctets). y ≡ fewest (integerOf y)) e h
+-- parts of octets are octets
+octets-behind : (x y : List ℕ) → AreOctets (x ++ y) → AreOctets y
+octets-behind [] y h = h
+octets-behind (a ∷ x) y h = octets-behind x y (h .1)
+
+fewest-is : (o : IntegerOctets) (y : List ℕ) → AreOctets (integer o ++ y) → padded o ≡ false → o ≡ fewest (integerOf o)
+fewest-is (One a) y h p = one-fewest a (h .1 .1 .0)
+fewest-is (Two a b) y h p = two-fewest a b (h .1 .1 .0) (h .1 .1 .1 .0) p
+
+-- an integer that is read has the fewest octets that say it, and octets follow it
+module _ (s : List ℕ) (h : AreOctets s) where
+  shortest : (o : IntegerOctets) → integerIn (firstElement s) ≡ some o → o ≡ fewest (integerOf o)
+  shortest o q = fewest-is o (restOf (firstElement s)) (subst AreOctets (integer-front s o q) h) (unpadded-is (integerOctetsIn (firstElement s)) o q .1)
+
+  behind-integer : (o : IntegerOctets) → integerIn (firstElement s) ≡ some o → AreOctets (restOf (firstElement s))
+  behind-integer o q = octets-behind (integer o) (restOf (firstElement s)) (subst AreOctets (integer-front s o q) h)
+
+  behind-object : (x : List ℕ) → objectIn (firstElement s) ≡ some x → AreOctets (restOf (firstElement s))
+  behind-object x q = octets-behind (element 0x06 x) (restOf (firstElement s)) (subst AreOctets (object-front s x q) h)
 
 same-octets : (x y : List ℕ) → sameOctets x y ≡ true → x ≡ y
 same-octets [] [] h = refl
@@ -92,7 +118,7 @@ same-octets [] (b ∷ y) h = absurd (let z : _≡_ {A = ℕ} 0 1 = cc in omega a
 same-octets (a ∷ x) [] h = absurd (let z : _≡_ {A = ℕ} 0 1 = cc in omega arith)
 same-octets (a ∷ x) (b ∷ y) h = ap₂ (λ (n : ℕ) (l : List ℕ). n ∷ l) (eqb-eq a b (left (eqb a b) (sameOctets x y) h)) (same-octets x y (right (eqb a b) (sameOctets x y) h))
 
-module _ (c : List ℕ) (o : IntegerOctets) (f : integerIn (firstElement c) ≡ some o) where
+module _ (c : List ℕ) (h : AreOctets c) (o : IntegerOctets) (f : integerIn (firstElement c) ≡ some o) where
   -- what follows the identifier, and what follows the operation
   abbrev rest : List ℕ
   rest = restOf (firstElement c)
@@ -100,36 +126,39 @@ module _ (c : List ℕ) (o : IntegerOctets) (f : integerIn (firstElement c) ≡ 
   abbrev last : List ℕ
   last = restOf (firstElement rest)
 
-  identified : (x : List ℕ) → Shortest (integerIn (firstElement c)) → rest ≡ x → c ≡ integer (fewest (integerOf o)) ++ x
-  identified x h e = rw (← shortest-is (integerIn (firstElement c)) o f h, ← e) (integer-front c o f)
+  octets : AreOctets rest
+  octets = behind-integer c h o f
+
+  identified : (x : List ℕ) → rest ≡ x → c ≡ integer (fewest (integerOf o)) ++ x
+  identified x e = rw (← shortest c h o f, ← e) (integer-front c o f)
 
   execute-is : (v : IntegerOctets) → integerIn (firstElement rest) ≡ some v → integerOf v ≡ pos 6 →
-      ShortestAmong 2 c → behind 2 c ≡ [] → c ≡ integer (fewest (integerOf o)) ++ operationOctets EctExecute
-  execute-is v g six h e =
-      let w : v ≡ fewest (pos 6) = shortest-is (integerIn (firstElement rest)) v g (h .1 .0) ∙ ap fewest six in
-      identified (operationOctets EctExecute) (h .0) (integer-front rest v g ∙ rw (e, w))
+      behind 2 c ≡ [] → c ≡ integer (fewest (integerOf o)) ++ operationOctets EctExecute
+  execute-is v g six e =
+      let w : v ≡ fewest (pos 6) = shortest rest octets v g ∙ ap fewest six in
+      identified (operationOctets EctExecute) (integer-front rest v g ∙ rw (e, w))
 
   request-is : (x : List ℕ) → objectIn (firstElement rest) ≡ some x → x ≡ ectObject 0x04 →
-      ShortestAmong 2 c → behind 2 c ≡ [] → c ≡ integer (fewest (integerOf o)) ++ operationOctets EctLinkIdRequest
-  request-is x g four h e = identified (operationOctets EctLinkIdRequest) (h .0) (object-front rest x g ∙ rw (e, four))
+      behind 2 c ≡ [] → c ≡ integer (fewest (integerOf o)) ++ operationOctets EctLinkIdRequest
+  request-is x g four e = identified (operationOctets EctLinkIdRequest) (object-front rest x g ∙ rw (e, four))
 
   explicit-is : (x : List ℕ) (v : IntegerOctets) → objectIn (firstElement rest) ≡ some x → x ≡ ectObject 0x01 → integerIn (firstElement last) ≡ some v →
-      ShortestAmong 3 c → behind 3 c ≡ [] → c ≡ integer (fewest (integerOf o)) ++ operationOctets (ExplicitEctExecute (record { 0 = integerOf v }))
-  explicit-is x v g one k h e =
-      let w : v ≡ fewest (integerOf v) = shortest-is (integerIn (firstElement last)) v k (h .1 .1 .0) in
+      behind 3 c ≡ [] → c ≡ integer (fewest (integerOf o)) ++ operationOctets (ExplicitEctExecute (record { 0 = integerOf v }))
+  explicit-is x v g one k e =
+      let w : v ≡ fewest (integerOf v) = shortest last (behind-object rest octets x g) v k in
       let l : last ≡ integer (fewest (integerOf v)) = integer-front last v k ∙ ap (λ (t : List ℕ). integer v ++ t) e ∙ append-nil (integer v) ∙ ap integer w in
-      identified (operationOctets (ExplicitEctExecute (record { 0 = integerOf v }))) (h .0) (object-front rest x g ∙ rw (l, one))
+      identified (operationOctets (ExplicitEctExecute (record { 0 = integerOf v }))) (object-front rest x g ∙ rw (l, one))
 
 -- ---- the contents of an invoke, by what they are read as
 
 no-invoke : {A : Type 0} {r : Reject} {o : IntegerOctets} {op : Operation} → Rejected r ≡ Invoked o op → A
 no-invoke e = absurd (let z : _≡_ {A = ℕ} 0 1 = cc in omega arith)
 
--- contents c that are read as the invoke r: where they are plain, they are its octets
+-- contents c that are read as the invoke r: where nothing lies behind, they are its octets
 abbrev Octets : List ℕ → IntegerOctets → Operation → Type 0
-Octets c o op = ShortestAmong (lookedAt op) c → behind (lookedAt op) c ≡ [] → c ≡ integer (fewest (integerOf o)) ++ operationOctets op
+Octets c o op = behind (lookedAt op) c ≡ [] → c ≡ integer (fewest (integerOf o)) ++ operationOctets op
 
-module _ (c : List ℕ) (i o : IntegerOctets) (op : Operation) (f : integerIn (firstElement c) ≡ some i) where
+module _ (c : List ℕ) (h : AreOctets c) (i o : IntegerOctets) (op : Operation) (f : integerIn (firstElement c) ≡ some i) where
   -- the same, of the invoke that was found
   found : (op′ : Operation) → Octets c i op′ → Invoked i op′ ≡ Invoked o op → Octets c o op
   found op′ h q =
@@ -144,13 +173,13 @@ module _ (c : List ℕ) (i o : IntegerOctets) (op : Operation) (f : integerIn (f
   local-found v g q = go (sameInteger (integerOf v) (pos 6)) refl q
     where
       go : (b : Bool) → sameInteger (integerOf v) (pos 6) ≡ b → cond b (Invoked i EctExecute) (Rejected (Invoke i 1)) ≡ Invoked o op → Octets c o op
-      go true s q = found EctExecute (execute-is c i f v g (sameInteger-eq (integerOf v) (pos 6) s)) q
+      go true s q = found EctExecute (execute-is c h i f v g (sameInteger-eq (integerOf v) (pos 6) s)) q
       go false s q = no-invoke q
 
   link-id-found : (x : List ℕ) → objectIn (firstElement operation) ≡ some x → x ≡ ectObject 0x01 →
       (l : Option IntegerOctets) → integerIn (firstElement (restOf (firstElement operation))) ≡ l → linkIdReading i l ≡ Invoked o op → Octets c o op
   link-id-found x g one none k q = no-invoke q
-  link-id-found x g one (some v) k q = found (ExplicitEctExecute (record { 0 = integerOf v })) (explicit-is c i f x v g one k) q
+  link-id-found x g one (some v) k q = found (ExplicitEctExecute (record { 0 = integerOf v })) (explicit-is c h i f x v g one k) q
 
   global-found : (x : List ℕ) → objectIn (firstElement operation) ≡ some x → globalReading i x (restOf (firstElement operation)) ≡ Invoked o op → Octets c o op
   global-found x g q = go (sameOctets x (ectObject 0x01)) (sameOctets x (ectObject 0x04)) refl refl q
@@ -158,7 +187,7 @@ module _ (c : List ℕ) (i o : IntegerOctets) (op : Operation) (f : integerIn (f
       go : (b d : Bool) → sameOctets x (ectObject 0x01) ≡ b → sameOctets x (ectObject 0x04) ≡ d →
           cond b (linkIdReading i (integerIn (firstElement (restOf (firstElement operation))))) (cond d (Invoked i EctLinkIdRequest) (Rejected (Invoke i 1))) ≡ Invoked o op → Octets c o op
       go true d s t q = link-id-found x g (same-octets x (ectObject 0x01) s) (integerIn (firstElement (restOf (firstElement operation)))) refl q
-      go false true s t q = found EctLinkIdRequest (request-is c i f x g (same-octets x (ectObject 0x04) t)) q
+      go false true s t q = found EctLinkIdRequest (request-is c h i f x g (same-octets x (ectObject 0x04) t)) q
       go false false s t q = no-invoke q
 
   object-found : (x : Option (List ℕ)) → objectIn (firstElement operation) ≡ x → objectReading i x (restOf (firstElement operation)) ≡ Invoked o op → Octets c o op
@@ -169,32 +198,32 @@ module _ (c : List ℕ) (i o : IntegerOctets) (op : Operation) (f : integerIn (f
   operation-found none g q = object-found (objectIn (firstElement operation)) refl q
   operation-found (some v) g q = local-found v g q
 
-invoke-found : (c : List ℕ) (o : IntegerOctets) (op : Operation) → invokeReading c ≡ Invoked o op → Octets c o op
+invoke-found : (c : List ℕ) → AreOctets c → (o : IntegerOctets) (op : Operation) → invokeReading c ≡ Invoked o op → Octets c o op
 unfolding invokeReading identifiedReading
-invoke-found c o op q = go (integerIn (firstElement c)) refl q
+invoke-found c h o op q = go (integerIn (firstElement c)) refl q
   where
     go : (x : Option IntegerOctets) → integerIn (firstElement c) ≡ x → identifierReading x (restOf (firstElement c)) ≡ Invoked o op → Octets c o op
     go none f q = no-invoke q
-    go (some i) f q = operation-found c i o op f (integerIn (firstElement (restOf (firstElement c)))) refl q
+    go (some i) f q = operation-found c h i o op f (integerIn (firstElement (restOf (firstElement c)))) refl q
 
 -- ---- the whole component
 
-framed-found : (s : List ℕ) (o : IntegerOctets) (op : Operation) → framedReading s ≡ Invoked o op → Plain op (0xA1 ∷ s) → 0xA1 ∷ s ≡ invokeOctets op (record { 0 = integerOf o })
+framed-found : (s : List ℕ) → AreOctets s → (o : IntegerOctets) (op : Operation) → framedReading s ≡ Invoked o op → NothingBehind op (0xA1 ∷ s) → 0xA1 ∷ s ≡ invokeOctets op (record { 0 = integerOf o })
 unfolding invokeOctets
-framed-found [] o op q p = no-invoke q
-framed-found (n ∷ c) o op q p = go (eqb n (length c)) (wholeElements 4 c) refl q
+framed-found [] h o op q p = no-invoke q
+framed-found (n ∷ c) h o op q p = go (eqb n (length c)) (wholeElements 4 c) refl q
   where
     go : (b d : Bool) → eqb n (length c) ≡ b → cond (b && d) (invokeReading c) (Rejected (Null 2)) ≡ Invoked o op → 0xA1 ∷ n ∷ c ≡ element 0xA1 (integer (fewest (integerOf o)) ++ operationOctets op)
-    go true true e q = rw (eqb-eq n (length c) e) (ap (element 0xA1) (invoke-found c o op q (p .shortest) (p .nothing-behind)))
+    go true true e q = rw (eqb-eq n (length c) e) (ap (element 0xA1) (invoke-found c (h .1) o op q p))
     go true false e q = no-invoke q
     go false d e q = no-invoke q
 
-pub plain-octets : (s : List ℕ) (o : IntegerOctets) (op : Operation) → reading s ≡ Invoked o op → Plain op s → s ≡ invokeOctets op (record { 0 = integerOf o })
+pub plain-octets : (s : List ℕ) → AreOctets s → (o : IntegerOctets) (op : Operation) → reading s ≡ Invoked o op → NothingBehind op s → s ≡ invokeOctets op (record { 0 = integerOf o })
 unfolding reading
-plain-octets [] o op q p = no-invoke q
-plain-octets (t ∷ s) o op q p = go (leb 0xA2 t && leb t 0xA4) (eqb t 0xA1) refl q
+plain-octets [] h o op q p = no-invoke q
+plain-octets (t ∷ s) h o op q p = go (leb 0xA2 t && leb t 0xA4) (eqb t 0xA1) refl q
   where
     go : (b d : Bool) → eqb t 0xA1 ≡ d → cond b Ignored (cond d (framedReading s) (Rejected (Null 0))) ≡ Invoked o op → t ∷ s ≡ invokeOctets op (record { 0 = integerOf o })
     go true d e q = absurd (let z : _≡_ {A = ℕ} 0 1 = cc in omega arith)
-    go false true e q = subst (λ (x : ℕ). Plain op (x ∷ s) → x ∷ s ≡ invokeOctets op (record { 0 = integerOf o })) (sym (eqb-eq t 0xA1 e)) (framed-found s o op q) p
+    go false true e q = subst (λ (x : ℕ). NothingBehind op (x ∷ s) → x ∷ s ≡ invokeOctets op (record { 0 = integerOf o })) (sym (eqb-eq t 0xA1 e)) (framed-found s (h .1) o op q) p
     go false false e q = no-invoke q

@@ -1,11 +1,13 @@
 -- Written and read back, read and written back: over the contracts of `write_invoke` and of `component::read`. Assumes nothing.
 use Prim.{tt}
-use Prim.Native.Nat.{ℕ, _≤_}
+use Prim.Native.Nat.{ℕ, _≤_, _<_}
 use native.Mathlib.Omega.{arith}
 use mathlib.Core.Path.{_≡_, refl, sym, ap, ap₂, _∙_}
+use mathlib.Core.Bool.{false}
 use mathlib.Core.List.{List, _++_}
 use lib.IntN.{ℤ, pos, negsuc}
 use lib.ListN.{length, take, drop}
+use lib.Signed.{mag}
 use lib.Seq.{take-at}
 use base.Fml.{GName}
 use contract.Lifetimes.{Lfts}
@@ -13,8 +15,8 @@ use borrow.Author.Tests.{le-ltb}
 use Rattle.octets.specs.declared.IntegerOctets.{IntegerOctets}
 use Rattle.octets.specs.declared.IntegerOctets.the-variants.{One, Two}
 use Rattle.octets.specs.declared.InvokeIdentifier.{InvokeIdentifier}
-use Rattle.octets.specs.Numbers.{integerOf, fewest, InInt16Range}
-use Rattle.octets.proofs.Laws.{integer-fewest}
+use Rattle.octets.specs.Numbers.{AreOctets, integerOf, padded, fewest, InInt16Range}
+use Rattle.octets.proofs.Laws.{integer-fewest, fewest-unpadded}
 use Rattle.octets.proofs.Lent.{lent}
 use Rattle.component.specs.declared.Operation.{Operation}
 use Rattle.component.specs.declared.Operation.the-variants.{EctExecute, ExplicitEctExecute, EctLinkIdRequest}
@@ -26,7 +28,7 @@ use Rattle.component.specs.Reading.{ectObject, reading, invokeReading, identifi
 use Rattle.invokes.specs.declared.WriteAnswer.{WriteAnswer}
 use Rattle.invokes.specs.Invokes.{invokeOctets}
 use Rattle.invokes.specs.Contract.{answerNumber, answerCount}
-use Rattle.invokes.specs.RoundTrip.{OperationInRange, ReadAs, Plain}
+use Rattle.invokes.specs.RoundTrip.{OperationInRange, ReadAs, NothingBehind}
 use Rattle.invokes.proofs.PlainInvokes.{plain-octets}
 use Rattle.component.proofs.Promises.{ReadMet, read-promise}
 use Rattle.invokes.proofs.write_invoke.Reads as write-contract
@@ -56,46 +58,63 @@ module _ {op : Operation} {i : InvokeIdentifier} {before after : List ℕ} {w : 
 -- ---- reading what was written
 
 module _ where
-  execute-read : (o : IntegerOctets) → reading (element 0xA1 (integer o ++ integer (One 6))) ≡ Invoked o EctExecute
+  execute-read : (o : IntegerOctets) → padded o ≡ false → reading (element 0xA1 (integer o ++ integer (One 6))) ≡ Invoked o EctExecute
   unfolding reading invokeReading identifiedReading firstElement wholeElements siblings
-  execute-read (One a) = refl
-  execute-read (Two a b) = refl
+  execute-read (One a) p = refl
+  execute-read (Two a b) p = rw p
 
-  request-read : (o : IntegerOctets) → reading (element 0xA1 (integer o ++ element 0x06 (ectObject 0x04))) ≡ Invoked o EctLinkIdRequest
+  request-read : (o : IntegerOctets) → padded o ≡ false → reading (element 0xA1 (integer o ++ element 0x06 (ectObject 0x04))) ≡ Invoked o EctLinkIdRequest
   unfolding reading invokeReading identifiedReading firstElement wholeElements siblings
-  request-read (One a) = refl
-  request-read (Two a b) = refl
+  request-read (One a) p = refl
+  request-read (Two a b) p = rw p
 
-  explicit-read : (o l : IntegerOctets) → reading (element 0xA1 (integer o ++ (element 0x06 (ectObject 0x01) ++ integer l)))
+  explicit-read : (o l : IntegerOctets) → padded o ≡ false → padded l ≡ false → reading (element 0xA1 (integer o ++ (element 0x06 (ectObject 0x01) ++ integer l)))
       ≡ Invoked o (ExplicitEctExecute (record { 0 = integerOf l }))
   unfolding reading invokeReading identifiedReading firstElement wholeElements siblings
-  explicit-read (One a) (One c) = refl
-  explicit-read (One a) (Two c d) = refl
-  explicit-read (Two a b) (One c) = refl
-  explicit-read (Two a b) (Two c d) = refl
+  explicit-read (One a) (One c) p q = refl
+  explicit-read (One a) (Two c d) p q = rw q
+  explicit-read (Two a b) (One c) p q = rw p
+  explicit-read (Two a b) (Two c d) p q = rw (p, q)
+
+small : (z : ℤ) → InInt16Range z → mag z < 32768
+small (pos n) h = omega arith
+small (negsuc n) h = omega arith
 
 said : (z : ℤ) → InInt16Range z → integerOf (fewest z) ≡ z
-said (pos n) h = integer-fewest (pos n) (omega arith)
-said (negsuc n) h = integer-fewest (negsuc n) (omega arith)
+said z h = integer-fewest z (small z h)
 
-invoke-read : (op : Operation) (i : InvokeIdentifier) → OperationInRange op → reading (invokeOctets op i) ≡ Invoked (fewest (i .0)) op
+unpadded : (z : ℤ) → InInt16Range z → padded (fewest z) ≡ false
+unpadded z h = fewest-unpadded z (small z h)
+
+invoke-read : (op : Operation) (i : InvokeIdentifier) → InInt16Range (i .0) → OperationInRange op → reading (invokeOctets op i) ≡ Invoked (fewest (i .0)) op
 unfolding invokeOctets
-invoke-read EctExecute i h = execute-read (fewest (i .0))
-invoke-read (ExplicitEctExecute l) i h =
-    explicit-read (fewest (i .0)) (fewest (l .0)) ∙ ap (λ (z : ℤ). Invoked (fewest (i .0)) (ExplicitEctExecute (record { 0 = z }))) (said (l .0) h)
-invoke-read EctLinkIdRequest i h = request-read (fewest (i .0))
+invoke-read EctExecute i h k = execute-read (fewest (i .0)) (unpadded (i .0) h)
+invoke-read (ExplicitEctExecute l) i h k =
+    explicit-read (fewest (i .0)) (fewest (l .0)) (unpadded (i .0) h) (unpadded (l .0) k) ∙ ap (λ (z : ℤ). Invoked (fewest (i .0)) (ExplicitEctExecute (record { 0 = z }))) (said (l .0) k)
+invoke-read EctLinkIdRequest i h k = request-read (fewest (i .0)) (unpadded (i .0) h)
 
 -- what was written is read as the same operation and numbers, for every identifier and every LinkId from -32768 to 32767
 pub written-read : (op : Operation) (i : InvokeIdentifier) → InInt16Range (i .0) → OperationInRange op →
     (before after : List ℕ) (w : WriteAnswer) → 32 ≤ length before → WriteMet op i before w after →
     (r : Reading) → ReadMet (take (answerCount w) after) r → (answerNumber w ≡ 0) × ReadAs op i r
 written-read op i h k before after w room p r q =
-    (accepted room p, record { received = fewest (i .0); invoked = read-promise (take (answerCount w) after) r q ∙ ap reading (octets-are room p) ∙ invoke-read op i k; identifier = said (i .0) h })
+    (accepted room p, record { received = fewest (i .0); invoked = read-promise (take (answerCount w) after) r q ∙ ap reading (octets-are room p) ∙ invoke-read op i h k; identifier = said (i .0) h })
 
 -- ---- writing what was read
 
--- octets that are read as an invoke, with shortest integers and nothing behind the last element looked at, are what writing that invoke gives
-pub read-written : (s : List ℕ) (r : Reading) → ReadMet s r → (o : IntegerOctets) (op : Operation) → r ≡ Invoked o op → Plain op s →
-    (before after : List ℕ) (w : WriteAnswer) → 32 ≤ length before → WriteMet op (record { 0 = integerOf o }) before w after →
+-- octets that are read as an invoke, with nothing behind the last element looked at, are the octets of that invoke
+invoke-is : (s : List ℕ) → AreOctets s → (r : Reading) → ReadMet s r → (op : Operation) (i : InvokeIdentifier) → ReadAs op i r → NothingBehind op s → s ≡ invokeOctets op i
+invoke-is s h r q op i e p =
+    plain-octets s h (e .received) op (sym (read-promise s r q) ∙ e .invoked) p ∙ ap (λ (z : ℤ). invokeOctets op (record { 0 = z })) (e .identifier)
+
+-- and so what writing it gives
+pub read-written : (s : List ℕ) → AreOctets s → (r : Reading) → ReadMet s r → (op : Operation) (i : InvokeIdentifier) → ReadAs op i r → NothingBehind op s →
+    (before after : List ℕ) (w : WriteAnswer) → 32 ≤ length before → WriteMet op i before w after →
     (answerNumber w ≡ 0) × (take (answerCount w) after ≡ s)
-read-written s r q o op e p before after w room h = (accepted room h, octets-are room h ∙ sym (plain-octets s o op (sym (read-promise s r q) ∙ e) p))
+read-written s h r q op i e p before after w room k = (accepted room k, octets-are room k ∙ sym (invoke-is s h r q op i e p))
+
+-- "two different octet strings without further elements never read as the same invoke": the same operation and numbers
+pub invoke-injective : (op : Operation) (i : InvokeIdentifier) →
+    (s : List ℕ) → AreOctets s → (r : Reading) → ReadMet s r → ReadAs op i r → NothingBehind op s →
+    (t : List ℕ) → AreOctets t → (q : Reading) → ReadMet t q → ReadAs op i q → NothingBehind op t → s ≡ t
+invoke-injective op i s h r m e p t k q n f g = invoke-is s h r m op i e p ∙ sym (invoke-is t k q n op i f g)

@@ -1,18 +1,17 @@
--- What is claimed of writing an invoke and reading it, and of reading one and writing it (document 02, slip 1).
+-- What is claimed of writing an invoke and reading it, and of reading one and writing it (document 02, slips 1 and 4).
 use Prim.Native.Nat.{ℕ, zero, suc}
 use mathlib.Core.Path.{_≡_}
 use mathlib.Core.List.{List, []}
-use mathlib.Core.Option.{Option, none, some}
 use lib.ListN.{drop}
 use Rattle.octets.specs.declared.IntegerOctets.{IntegerOctets}
 use Rattle.octets.specs.declared.InvokeIdentifier.{InvokeIdentifier}
-use Rattle.octets.specs.Numbers.{integerOf, fewest, InInt16Range}
+use Rattle.octets.specs.Numbers.{integerOf, InInt16Range}
 use Rattle.component.specs.declared.Operation.{Operation}
 use Rattle.component.specs.declared.Operation.the-variants.{EctExecute, ExplicitEctExecute, EctLinkIdRequest}
 use Rattle.component.specs.declared.Reading.{Reading}
 use Rattle.component.specs.declared.Reading.the-variants.{Invoked}
 use Rattle.component.specs.Elements.{firstElement}
-use Rattle.component.specs.Reading.{integerIn, restOf}
+use Rattle.component.specs.Reading.{restOf}
 
 -- ---- written, then read
 
@@ -45,17 +44,6 @@ abbrev pub behind : ℕ → List ℕ → List ℕ
 behind zero s = s
 behind (suc n) s = behind n (restOf (firstElement s))
 
--- an integer has the fewest octets that say it; what is no integer may be as it is
-abbrev pub Shortest : Option IntegerOctets → Type 0
-Shortest none = Unit {0}
-Shortest (some o) = o ≡ fewest (integerOf o)
-
--- each integer among the first n elements
-abbrev pub ShortestAmong : ℕ → List ℕ → Type 0
-ShortestAmong zero s = Unit {0}
-ShortestAmong (suc n) s = Shortest (integerIn (firstElement s)) × ShortestAmong n (restOf (firstElement s))
-
--- "a read invoke that has shortest integers and no further elements"
-pub record Plain (op : Operation) (s : List ℕ) : Type 0 where
-  pub shortest : ShortestAmong (lookedAt op) (contents s)
-  pub nothing-behind : behind (lookedAt op) (contents s) ≡ []
+-- "a read invoke that has .. no further elements"
+abbrev pub NothingBehind : Operation → List ℕ → Type 0
+NothingBehind op s = behind (lookedAt op) (contents s) ≡ []
