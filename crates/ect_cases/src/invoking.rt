@@ -5,6 +5,7 @@ use crate::show::front;
 use crate::show::hex;
 use crate::show::signed;
 use crate::show::text;
+use component::Answer;
 use component::Operation;
 use component::Reading;
 use events::Refusal;
@@ -35,10 +36,16 @@ fn show_invoke(operation: Operation, identifier: InvokeIdentifier) {
     }
 }
 
-fn show_reading(reading: Reading) {
+// The invoke, or the octets of the Reject that answers.
+pub fn show_reading(reading: Reading) {
     match reading {
-        Reading::Ignored => text(b"not an invoke"),
-        Reading::Rejected(_) => text(b"not an invoke"),
+        Reading::Ignored => text(b"nothing"),
+        Reading::Rejected(reject) => {
+            let answer = component::encode(Answer::Rejected(reject));
+            let octets = answer.octets;
+            text(b"Reject ");
+            front(answer.count as usize, &octets);
+        }
         Reading::Invoked(received, operation) => {
             let identifier = InvokeIdentifier::from_integer(Integer::from_octets(received));
             show_invoke(operation, identifier);

@@ -1,5 +1,5 @@
-// Runs cases and prints a line for each: every refusal of `step`, a transfer, README's sample, and invokes that are
-// written and read back.
+// Runs cases and prints a line for each: every refusal of `step`, a transfer, README's sample, invokes that are
+// written and read back, and integers that are padded or not.
 use board::Board;
 use board::Options;
 use ect::StepAnswer;
@@ -9,6 +9,7 @@ use show::decimal;
 use show::text;
 
 mod invoking;
+mod padding;
 mod sample;
 mod show;
 mod transfer;
@@ -120,4 +121,5 @@ fn main() {
     sample::sample();
     invoking::written_and_read();
     invoking::buffers();
+    padding::padded_or_not();
 }
