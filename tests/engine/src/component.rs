@@ -12,7 +12,7 @@ const NULL: &[u8] = &[0x05, 0x00];
 const GENERAL: u8 = 0x80;
 const INVOKE: u8 = 0x81;
 
-#[derive(Clone, Copy, PartialEq, Eq, Debug)]
+#[derive(Clone, Copy, PartialEq, Eq, Hash, Debug)]
 pub enum Operation {
     Execute,
     Explicit(LinkId),
@@ -35,13 +35,19 @@ pub struct Element<'a> {
 }
 
 impl Element<'_> {
-    /// The value of an integer of one or two octets.
+    /// The value of an integer: of one octet, or of two that are not padded.
     pub fn integer(&self) -> Option<i16> {
         match (self.tag, self.contents) {
             (0x02, &[octet]) => Some(octet as i8 as i16),
-            (0x02, &[high, low]) => Some(i16::from_be_bytes([high, low])),
+            (0x02, &[high, low]) if !self.padded() => Some(i16::from_be_bytes([high, low])),
             _ => None,
         }
+    }
+
+    /// Whether two octets would be an integer but for their first nine bits, which are all equal.
+    pub fn padded(&self) -> bool {
+        let (0x02, &[high, low]) = (self.tag, self.contents) else { return false };
+        matches!(u16::from_be_bytes([high, low]) >> 7, 0 | 0x1FF)
     }
 }
 

@@ -7,10 +7,10 @@ use crate::records::{execute, explicit_link, link_request, short_integer};
 pub const ROOM: usize = 32;
 
 /// An invoke identifier as a number, from -32768 to 32767. Neither a LinkId nor a reference.
-#[derive(Clone, Copy, PartialEq, Eq, Debug)]
+#[derive(Clone, Copy, PartialEq, Eq, Hash, Debug)]
 pub struct InvokeId(pub i16);
 
-#[derive(Clone, Copy, PartialEq, Eq, Debug)]
+#[derive(Clone, Copy, PartialEq, Eq, Hash, Debug)]
 pub struct Invoke {
     pub identifier: InvokeId,
     pub operation: Operation,

@@ -27,6 +27,7 @@ pub mod script;
 // Tallying what occurs in them.
 pub mod notice;
 pub mod notice_component;
+pub mod notice_integer;
 pub mod notice_invoke;
 pub mod notice_pair;
 pub mod notice_transfer;

@@ -14,7 +14,7 @@ const BUSY: Style =
 
 /// A log of that many events with about that many legs; also gives the mean of legs.
 pub fn log(rng: &mut Rng, legs: usize, events: usize) -> (Vec<u8>, f64) {
-    let mut script = Script::new(rng, 1, 1);
+    let mut script = Script { pads: false, ..Script::new(rng, 1, 1) };
     let mut sum = 0;
     let mut steps = 0;
     while script.events() < events {

@@ -3,6 +3,8 @@
 use crate::board::{Aux, Board, Call, CallState, LinkId, Reference, Row, MAX_LIVE};
 use crate::component::{read, take, Element, Operation, Reading, MAX_DEPTH};
 use crate::notice::{Moment, Past};
+use crate::notice_integer::integers;
+use crate::notice_invoke::form;
 use crate::notice_transfer::{transferred, EXPLICIT, IMPLICIT};
 use crate::serve::{pairs, verdict};
 use crate::tally::{Seen, Tally};
@@ -10,7 +12,9 @@ use crate::tally::{Seen, Tally};
 pub fn served(moment: &Moment, reference: Reference, component: &[u8], past: &mut Past, tally: &mut Tally) {
     tally.add_if(component.len() == 1, Seen::ComponentOne);
     tally.add_if(component.len() == 32, Seen::ComponentFull);
-    match read(component) {
+    let reading = read(component);
+    integers(component, reading, moment.before.subscribed, tally);
+    match reading {
         Reading::Nothing => tally.add(match component[0] {
             0xA2 => Seen::IgnoredA2,
             0xA3 => Seen::IgnoredA3,
@@ -22,7 +26,7 @@ pub fn served(moment: &Moment, reference: Reference, component: &[u8], past: &mu
         }
         Reading::Invoke { identifier, operation } => {
             forms(component, identifier, operation, tally);
-            invoked(moment, reference, operation, component, past, tally);
+            invoked(moment, reference, operation, past, tally);
         }
     }
 }
@@ -103,34 +107,23 @@ pub fn elements(mut octets: &[u8]) -> Vec<Element<'_>> {
     list
 }
 
+/// The elements behind the last one that is looked at for the operation.
+pub fn further(component: &[u8], operation: Operation) -> Vec<Element<'_>> {
+    let looked_at = if matches!(operation, Operation::Explicit(_)) { 3 } else { 2 };
+    elements(&component[2..]).split_off(looked_at)
+}
+
 /// The forms in which a component that is served was written.
 fn forms(component: &[u8], identifier: &[u8], operation: Operation, tally: &mut Tally) {
-    let list = elements(&component[2..]);
-    let needed = if matches!(operation, Operation::Explicit(_)) { 3 } else { 2 };
-    tally.add_if(list.len() > needed, Seen::Further);
+    tally.add_if(!further(component, operation).is_empty(), Seen::Further);
     let (deepest, empty) = depth(&component[2..], 1);
     tally.add_if(deepest == 4, Seen::DepthFour);
     tally.add_if(empty, Seen::DepthFourEmpty);
-    match *identifier {
-        [_, _, octet] => tally.add_if(octet >= 0x80, Seen::IdentifierNegative),
-        [_, _, high, low] => {
-            let padded = i8::try_from(i16::from_be_bytes([high, low])).is_ok();
-            tally.add(if padded { Seen::IdentifierPadded } else { Seen::IdentifierTwo });
-        }
-        _ => {}
-    }
-    let padded = operation == Operation::Execute && list[1].contents.len() == 2;
-    tally.add_if(padded, Seen::LocalPadded);
+    tally.add_if(identifier.len() == 4, Seen::IdentifierTwo);
+    tally.add_if(matches!(identifier, [_, _, 0x80..=0xFF]), Seen::IdentifierNegative);
 }
 
-fn invoked(
-    moment: &Moment,
-    reference: Reference,
-    operation: Operation,
-    component: &[u8],
-    past: &mut Past,
-    tally: &mut Tally,
-) {
+fn invoked(moment: &Moment, reference: Reference, operation: Operation, past: &mut Past, tally: &mut Tally) {
     let board = moment.before;
     let Some(named) = row_of(board, |call| call.reference == reference) else { return };
     let Some(call) = named.call() else { return };
@@ -144,7 +137,7 @@ fn invoked(
     match operation {
         Operation::LinkRequest => linked(moment, call, tally),
         Operation::Execute => executed(moment, named, call, past, tally),
-        Operation::Explicit(link) => explicit(moment, named, call, link, component, past, tally),
+        Operation::Explicit(link) => explicit(moment, named, call, link, past, tally),
     }
 }
 
@@ -174,12 +167,8 @@ fn linked(moment: &Moment, call: &Call, tally: &mut Tally) {
     tally.add_if(given == i16::MAX, Seen::LinkWrap);
     tally.add_if(given == i16::MIN, Seen::LinkLowest);
     tally.add_if(given != moment.before.candidate.0, Seen::LinkSkip);
-    tally.add(match (given < 0, i8::try_from(given).is_ok()) {
-        (false, true) => Seen::LinkPositiveOne,
-        (false, false) => Seen::LinkPositiveTwo,
-        (true, true) => Seen::LinkNegativeOne,
-        (true, false) => Seen::LinkNegativeTwo,
-    });
+    let forms = [Seen::LinkPositiveOne, Seen::LinkPositiveTwo, Seen::LinkNegativeOne, Seen::LinkNegativeTwo];
+    tally.add(forms[form(given)]);
 }
 
 fn executed(moment: &Moment, named: &Row, call: &Call, past: &mut Past, tally: &mut Tally) {
@@ -201,18 +190,12 @@ fn executed(moment: &Moment, named: &Row, call: &Call, past: &mut Past, tally: &
     transferred(board, named, other, &IMPLICIT, past, tally);
 }
 
-fn explicit(
-    moment: &Moment,
-    named: &Row,
-    call: &Call,
-    link: LinkId,
-    component: &[u8],
-    past: &mut Past,
-    tally: &mut Tally,
-) {
+fn explicit(moment: &Moment, named: &Row, call: &Call, link: LinkId, past: &mut Past, tally: &mut Tally) {
     let Some(other) = row_of(moment.before, |call| call.link == Some(link)) else {
         tally.add(Seen::NotAssigned);
         tally.add_if(link.0 < 0, Seen::NotAssignedNegative);
+        tally.add_if(link.0 == 128, Seen::NotAssigned0080);
+        tally.add_if(link.0 == -129, Seen::NotAssignedFF7F);
         return tally.add_if(past.links.contains(&link), Seen::NotAssignedGone);
     };
     let Some(second) = other.call() else { return };
@@ -223,20 +206,19 @@ fn explicit(
         tally.add(Seen::LinkNoPair);
         return tally.add_if(verdict(call, second) == 2, Seen::LinkAlertingOff);
     }
-    let octets = elements(&component[2..])[2].contents.len();
-    link_form(link, octets, tally);
+    link_form(link, tally);
     transferred(moment.before, named, other, &EXPLICIT, past, tally);
 }
 
-fn link_form(link: LinkId, octets: usize, tally: &mut Tally) {
-    let short = i8::try_from(link.0).is_ok();
+fn link_form(link: LinkId, tally: &mut Tally) {
+    let forms = [
+        Seen::ExplicitPositiveOne,
+        Seen::ExplicitPositiveTwo,
+        Seen::ExplicitNegativeOne,
+        Seen::ExplicitNegativeTwo,
+    ];
+    tally.add(forms[form(link.0)]);
     tally.add_if(link.0 == i16::MIN, Seen::ExplicitLowest);
-    tally.add(match (link.0 < 0, short, octets) {
-        (false, true, 1) => Seen::ExplicitPositiveOne,
-        (false, true, _) => Seen::ExplicitPadded,
-        (false, false, _) => Seen::ExplicitPositiveTwo,
-        (true, true, 1) => Seen::ExplicitNegativeOne,
-        (true, true, _) => Seen::ExplicitNegativePadded,
-        (true, false, _) => Seen::ExplicitNegativeTwo,
-    });
+    tally.add_if(link.0 == 128, Seen::Explicit0080);
+    tally.add_if(link.0 == -129, Seen::ExplicitFF7F);
 }

@@ -2,7 +2,7 @@
 
 use crate::component::Operation;
 use crate::invoke::{Invoke, InvokeId, ROOM};
-use crate::notice_component::elements;
+use crate::notice_component::further;
 use crate::tally::{Seen, Tally};
 
 const FILL: u8 = 0x5A;
@@ -18,16 +18,14 @@ pub fn rewritten(component: &[u8], tally: &mut Tally) -> Result<(), String> {
         return Err(format!("{invoke:?}: octets beyond the {count} counted were written"));
     }
     holds(component, &invoke, written)?;
-    match reasons(component, &invoke)[..] {
-        [] => as_written(&invoke, tally),
-        [only] => tally.add(only),
-        _ => {}
+    if further(component, invoke.operation).is_empty() {
+        as_written(&invoke, tally);
     }
     Ok(())
 }
 
 /// What is written is read as the same invoke. It is the component itself, if that has
-/// shortest integers and nothing behind them; else it is shorter.
+/// nothing behind the last element looked at; else it is shorter.
 pub fn holds(component: &[u8], invoke: &Invoke, written: &[u8]) -> Result<(), String> {
     let fault =
         |what| Err(format!("{invoke:?}, read from {component:02x?}, written as {written:02x?}: {what}"));
@@ -35,34 +33,14 @@ pub fn holds(component: &[u8], invoke: &Invoke, written: &[u8]) -> Result<(), St
     if again.as_ref() != Some(invoke) {
         return fault(format!("that is read as {again:?}"));
     }
-    let shortest = reasons(component, invoke).is_empty();
-    if shortest && written != component {
-        return fault("not the octets that were read, which are shortest".to_string());
+    let nothing_behind = further(component, invoke.operation).is_empty();
+    if nothing_behind && written != component {
+        return fault("not the octets that were read".to_string());
     }
-    if !shortest && written.len() >= component.len() {
-        return fault("not shorter than what was read, which is padded or has more elements".to_string());
+    if !nothing_behind && written.len() >= component.len() {
+        return fault("not shorter than what was read, which has further elements".to_string());
     }
     Ok(())
-}
-
-/// Why the octets of an invoke are not those that are written for it; none where they are.
-fn reasons(component: &[u8], invoke: &Invoke) -> Vec<Seen> {
-    let list = elements(&component[2..]);
-    let looked_at = if matches!(invoke.operation, Operation::Explicit(_)) { 3 } else { 2 };
-    let padded =
-        |place: usize| list.get(place).is_some_and(|element| element.tag == 0x02 && padded(element.contents));
-    let all = [
-        (padded(0), Seen::RewrittenIdentifier),
-        (padded(1), Seen::RewrittenOperation),
-        (looked_at == 3 && padded(2), Seen::RewrittenLink),
-        (list.len() > looked_at, Seen::RewrittenFurther),
-    ];
-    all.into_iter().filter(|(test, _)| *test).map(|(_, seen)| seen).collect()
-}
-
-/// Whether the first of two octets only repeats the sign of the second.
-fn padded(contents: &[u8]) -> bool {
-    matches!(contents, [0x00, 0x00..=0x7F] | [0xFF, 0x80..=0xFF])
 }
 
 fn as_written(invoke: &Invoke, tally: &mut Tally) {
@@ -111,7 +89,7 @@ fn as_written(invoke: &Invoke, tally: &mut Tally) {
 }
 
 /// 0 and 1 for what is not negative, in one octet and in two; 2 and 3 for what is.
-fn form(value: i16) -> usize {
+pub fn form(value: i16) -> usize {
     2 * (value < 0) as usize + !(-128..=127).contains(&value) as usize
 }
 

@@ -5,6 +5,7 @@ use crate::board::{Aux, Board, Call, CallState, LinkId, Reference, Row, Standing
 use crate::component::Operation;
 use crate::event::event;
 use crate::invoke::{Invoke, InvokeId, ROOM};
+use crate::odd;
 use crate::records;
 use crate::reply::BUFFER;
 use crate::rng::Rng;
@@ -18,13 +19,16 @@ pub struct Script<'a> {
     /// References and LinkIds seen so far, for events that come too late.
     pub old_references: Vec<Reference>,
     pub old_links: Vec<LinkId>,
+    /// Whether an invoke is at times sent padded first, which is rejected.
+    pub pads: bool,
 }
 
 impl<'a> Script<'a> {
     pub fn new(rng: &'a mut Rng, subscribed: u8, alerting: u8) -> Script<'a> {
         let (_, board) = Board::fresh(subscribed, alerting);
         let log = vec![subscribed, alerting];
-        Script { rng, board, log, starts: Vec::new(), old_references: Vec::new(), old_links: Vec::new() }
+        let (starts, old_references, old_links) = (Vec::new(), Vec::new(), Vec::new());
+        Script { rng, board, log, starts, old_references, old_links, pads: true }
     }
 
     pub fn events(&self) -> usize {
@@ -125,25 +129,44 @@ impl<'a> Script<'a> {
         })
     }
 
-    /// An identifier's element, at times padded.
     pub fn identifier_element(&mut self) -> Vec<u8> {
-        let padded = self.rng.percent(25);
-        integer(self.identifier().0, padded)
+        records::short_integer(self.identifier().0)
     }
 
-    /// An invoke as the writer gives it or, at times, padded.
+    /// An invoke as the writer gives it.
     pub fn invoke(&mut self, operation: Operation) -> Vec<u8> {
+        let mut buffer = [0; ROOM];
         let invoke = Invoke { identifier: self.identifier(), operation };
-        match self.rng.below(12) {
-            0 => padded(&invoke, true, false),
-            1 => padded(&invoke, false, true),
-            2 => padded(&invoke, true, true),
-            _ => written(&invoke),
+        let count = invoke.write(&mut buffer).expect("the buffer is long enough");
+        buffer[..count].to_vec()
+    }
+
+    /// An invoke with what stands behind the identifier padded, 6 or a LinkId of one octet, or
+    /// else the identifier; at times both.
+    fn padded(&mut self, operation: Operation) -> Vec<u8> {
+        let one_octet = match operation {
+            Operation::Execute => true,
+            Operation::Explicit(link) => i8::try_from(link.0).is_ok(),
+            Operation::LinkRequest => false,
+        };
+        let behind = one_octet && self.rng.percent(60);
+        let identifier =
+            if behind && self.rng.percent(80) { self.identifier_element() } else { odd::padded(self.rng) };
+        let integer = if behind { records::long_integer } else { records::short_integer };
+        match operation {
+            Operation::Execute => records::invoke(&[&identifier, &integer(6)]),
+            Operation::Explicit(link) => records::explicit(&identifier, &integer(link.0)),
+            Operation::LinkRequest => records::link_request(&identifier),
         }
     }
 
-    /// Sends an invoke on a call; gives what the event returned.
+    /// Sends an invoke on a call; gives what the event returned. The same padded may come
+    /// first: it is rejected where it would be served without the padding.
     pub fn ask(&mut self, reference: Reference, operation: Operation) -> u8 {
+        if self.pads && self.rng.percent(15) {
+            let component = self.padded(operation);
+            self.facility(reference, &component);
+        }
         let component = self.invoke(operation);
         self.facility(reference, &component)
     }
@@ -194,30 +217,5 @@ impl<'a> Script<'a> {
         let link = self.call(reference).and_then(|call| call.link)?;
         self.old_links.push(link);
         Some(link)
-    }
-}
-
-/// The octets that the writer gives.
-fn written(invoke: &Invoke) -> Vec<u8> {
-    let mut buffer = [0; ROOM];
-    let count = invoke.write(&mut buffer).expect("the buffer is long enough");
-    buffer[..count].to_vec()
-}
-
-/// An invoke with its identifier in two octets, or what stands behind it: 6 or the LinkId.
-fn padded(invoke: &Invoke, first: bool, behind: bool) -> Vec<u8> {
-    let identifier = integer(invoke.identifier.0, first);
-    match invoke.operation {
-        Operation::Execute => records::invoke(&[&identifier, &integer(6, behind)]),
-        Operation::Explicit(link) => records::explicit(&identifier, &integer(link.0, behind)),
-        Operation::LinkRequest => records::link_request(&identifier),
-    }
-}
-
-fn integer(value: i16, padded: bool) -> Vec<u8> {
-    if padded {
-        records::long_integer(value)
-    } else {
-        records::short_integer(value)
     }
 }

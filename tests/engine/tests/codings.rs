@@ -7,6 +7,7 @@ use engine::board::LinkId;
 use engine::component::{read, Operation, Reading, LINK_REQUEST};
 use engine::invoke::{Invoke, InvokeId, ROOM};
 use engine::notice_invoke::rewritten;
+use engine::records::{self, element, execute, explicit};
 use engine::reply::Component;
 use engine::tally::Tally;
 
@@ -146,6 +147,19 @@ fn written_invokes_are_listed() {
         }
         let link = format!(" ExplicitEctExecute {number}");
         assert!(listed.iter().any(|what| what.starts_with("written ") && what.ends_with(&link)), "{link}");
+    }
+}
+
+/// Two padded integers and the two next to them are listed as identifier, as operation and as LinkId.
+#[test]
+fn padded_integers_are_listed() {
+    let listed: Vec<Vec<u8>> = list().into_iter().map(|coding| coding.octets).collect();
+    let id: &[u8] = &[0x02, 0x01, 0x05];
+    for contents in [[0x00, 0x05], [0xFF, 0x80], [0x00, 0x80], [0xFF, 0x7F]] {
+        let integer = element(0x02, &contents);
+        for component in [execute(&integer), records::invoke(&[id, &integer]), explicit(id, &integer)] {
+            assert!(listed.contains(&component), "{component:02x?}");
+        }
     }
 }
 

@@ -2,10 +2,14 @@
 
 mod common;
 
-use common::{error, Desk, DONE, ID};
+use common::{error, Desk, DONE, ID, NOT_ASSIGNED};
 use engine::board::LinkId;
-use engine::component::{read, Operation, Reading, EXPLICIT, LINK_REQUEST};
-use engine::records::{element, execute, invoke, long_integer, object};
+use engine::component::{read, take, Operation, Reading, EXPLICIT, LINK_REQUEST};
+use engine::records::{element, execute, explicit, invoke, object};
+
+/// Integers that are padded, those at the borders among them.
+const PADDED: [&[u8]; 6] =
+    [&[2, 2, 0, 0], &[2, 2, 0, 5], &[2, 2, 0, 6], &[2, 2, 0, 0x7F], &[2, 2, 0xFF, 0x80], &[2, 2, 0xFF, 0xFF]];
 
 /// The Reply to a component, asked on a single call.
 fn reply(component: &[u8]) -> Vec<u8> {
@@ -85,7 +89,7 @@ fn identifiers() {
     for bad in [&[] as &[u8], &[2, 0], &[2, 3, 0, 0, 5], &[0x80, 1, 5], &[0x22, 0], &[6, 1, 5]] {
         assert_eq!(reply(&invoke(&[bad, &object(LINK_REQUEST)])), general_null(1), "{bad:02x?}");
     }
-    for good in [&[2u8, 1, 0x80] as &[u8], &[2, 2, 0, 5], &[2, 2, 0xFF, 0xFF], &[2, 2, 0x12, 0x34]] {
+    for good in [&[2u8, 1, 0x80] as &[u8], &[2, 2, 0, 0x80], &[2, 2, 0xFF, 0x7F], &[2, 2, 0x12, 0x34]] {
         let mut expected = vec![0xA3, good.len() as u8 + 3];
         expected.extend(good);
         expected.extend([2, 1, 7]);
@@ -108,6 +112,8 @@ fn operations() {
         &[2, 2, 1, 6],
         &[2, 2, 6, 0],
         &[2, 2, 0xFF, 6],
+        &[2, 2, 0, 0x80],
+        &[2, 2, 0xFF, 0x7F],
         &[6, 1, 6],
         &object(0),
         &object(2),
@@ -119,7 +125,6 @@ fn operations() {
     ] {
         assert_eq!(reply(&invoke(&[ID, unknown, &[2, 1, 0]])), with_id(0x81, 1), "{unknown:02x?}");
     }
-    assert_eq!(reply(&invoke(&[ID, &long_integer(6)])), error(7));
 }
 
 #[test]
@@ -135,16 +140,56 @@ fn link_ids_are_signed() {
     for (octets, value) in [
         (&[2u8, 1, 0xFF] as &[u8], -1),
         (&[2, 2, 0, 0xFF], 255),
-        (&[2, 2, 0xFF, 0xFF], -1),
+        (&[2, 2, 0, 0x80], 128),
+        (&[2, 2, 1, 0], 256),
+        (&[2, 2, 0xFE, 0xFF], -257),
+        (&[2, 2, 0x7F, 0xFF], 32767),
         (&[2, 1, 0x80], -128),
         (&[2, 2, 0x80, 0], -32768),
-        (&[2, 2, 0, 5], 5),
         (&[2, 1, 0x7F], 127),
         (&[2, 2, 0xFF, 0x7F], -129),
     ] {
         let component = invoke(&[ID, &object(EXPLICIT), octets]);
         let operation = Operation::Explicit(LinkId(value));
         assert_eq!(read(&component), Reading::Invoke { identifier: ID, operation });
+    }
+}
+
+/// The form comes before the value, in each place; what stands behind does not matter.
+#[test]
+fn padded_integers() {
+    for padded in PADDED {
+        for behind in [&[] as &[u8], &[2, 1, 0], padded] {
+            assert_eq!(reply(&invoke(&[padded, &[2, 1, 6], behind])), general_null(1), "{padded:02x?}");
+            assert_eq!(reply(&invoke(&[padded, padded, behind])), general_null(1), "{padded:02x?}");
+            assert_eq!(reply(&invoke(&[ID, padded, behind])), with_id(0x80, 1), "{padded:02x?}");
+            let component = invoke(&[ID, &object(EXPLICIT), padded, behind]);
+            assert_eq!(reply(&component), with_id(0x81, 2), "{padded:02x?}");
+        }
+    }
+}
+
+#[test]
+fn padded_integers_are_rejected_before_error_0() {
+    let mut desk = Desk::new(0, 1);
+    desk.call(1, 0, 10, 0);
+    for padded in PADDED {
+        assert_eq!(desk.ask(1, &execute(padded)), general_null(1));
+        assert_eq!(desk.ask(1, &invoke(&[ID, padded])), with_id(0x80, 1));
+        assert_eq!(desk.ask(1, &explicit(ID, padded)), with_id(0x81, 2));
+    }
+}
+
+/// Whether all 65,792 contents of one and two octets are an integer, and which.
+#[test]
+fn every_integer() {
+    let value_of = |contents: &[u8]| take(&element(2, contents)).unwrap().0.integer();
+    for value in i16::MIN..=i16::MAX {
+        let one_octet = (-128..=127).contains(&value);
+        assert_eq!(value_of(&value.to_be_bytes()), (!one_octet).then_some(value));
+        if one_octet {
+            assert_eq!(value_of(&[value as u8]), Some(value));
+        }
     }
 }
 
@@ -155,6 +200,20 @@ fn further_elements_are_passed_over() {
     desk.call(2, 1, 10, 0);
     let component = invoke(&[ID, &[2, 1, 6], &[2, 0], &[0x30, 3, 6, 1, 9], &[0, 0]]);
     assert_eq!(desk.ask(1, &component), DONE);
+}
+
+#[test]
+fn padded_integers_are_passed_over() {
+    for padded in PADDED {
+        let inside = element(0x30, &element(0xA0, padded));
+        for further in [padded.to_vec(), inside.clone(), [&inside, padded].concat()] {
+            assert_eq!(reply(&invoke(&[ID, &[2, 1, 6], &further])), error(7));
+            let explicit = invoke(&[ID, &object(EXPLICIT), &[2, 1, 9], &further]);
+            assert_eq!(reply(&explicit), NOT_ASSIGNED);
+            assert_eq!(reply(&invoke(&[ID, &object(LINK_REQUEST), &further]))[..5], [0xA2, 16, 2, 1, 5]);
+            assert_eq!(reply(&invoke(&[ID, &[2, 1, 5], &further])), with_id(0x81, 1));
+        }
+    }
 }
 
 #[test]

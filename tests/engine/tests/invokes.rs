@@ -1,10 +1,13 @@
 //! Writing invokes.
 
+use std::collections::HashMap;
+
 use engine::board::LinkId;
 use engine::component::Operation;
 use engine::invoke::{Invoke, InvokeId};
+use engine::notice_component::further;
 use engine::notice_invoke::{holds, rewritten};
-use engine::records::{element, explicit, invoke, link_request, long_integer, object};
+use engine::records::{element, execute, explicit, invoke, link_request, object};
 use engine::tally::Tally;
 
 const OPERATIONS: [Operation; 3] =
@@ -121,30 +124,70 @@ fn every_link_id_is_read_back() {
     }
 }
 
-/// What was read, written again, is the same where nothing is padded, and else shorter by the padding.
-#[test]
-fn every_identifier_and_link_id_in_two_octets() {
-    for value in i16::MIN..=i16::MAX {
-        let component = link_request(&long_integer(value));
-        let again = written(&Invoke::read(&component).unwrap());
-        assert_eq!(again == component, octets(value) == 2, "{value}");
-        assert_eq!(component.len() - again.len(), 2 - octets(value), "{value}");
-        let component = explicit(&[2, 1, 5], &long_integer(value));
-        let again = written(&Invoke::read(&component).unwrap());
-        assert_eq!(again == component, octets(value) == 2, "{value}");
-        assert_eq!(component.len() - again.len(), 2 - octets(value), "{value}");
+/// All elements with tag 02 and one or two octets, padded ones too.
+fn integers() -> Vec<Vec<u8>> {
+    let one = (0..=255).map(|octet| element(2, &[octet]));
+    let two = (0..=u16::MAX).map(|octets| element(2, &octets.to_be_bytes()));
+    one.chain(two).collect()
+}
+
+/// Components that vary in one integer, the others being short, at the borders or padded; and such
+/// that differ from an invoke in one octet.
+fn components() -> Vec<Vec<u8>> {
+    let some: [&[u8]; 6] = [
+        &[2, 1, 5],
+        &[2, 1, 0x80],
+        &[2, 2, 0, 0x80],
+        &[2, 2, 0xFF, 0x7F],
+        &[2, 2, 0, 5],
+        &[2, 2, 0xFF, 0x80],
+    ];
+    let mut list = Vec::new();
+    for integer in integers() {
+        list.extend([execute(&integer), link_request(&integer)]);
+        for other in some {
+            list.push(invoke(&[other, &integer]));
+            list.extend([explicit(&integer, other), explicit(other, &integer)]);
+        }
     }
+    for invoke in some.iter().flat_map(|link| [execute(link), link_request(link), explicit(link, link)]) {
+        for place in 0..invoke.len() {
+            list.extend((0..=255).map(|octet| [&invoke[..place], &[octet], &invoke[place + 1..]].concat()));
+        }
+    }
+    list
+}
+
+/// Two different strings of octets with nothing behind the last element looked at are never read as
+/// the same invoke, and each is what is written for the invoke.
+#[test]
+fn no_two_are_read_as_the_same_invoke() {
+    let mut read_from: HashMap<Invoke, Vec<u8>> = HashMap::new();
+    for component in components() {
+        let Some(invoke) = Invoke::read(&component) else { continue };
+        if !further(&component, invoke.operation).is_empty() {
+            continue;
+        }
+        assert_eq!(written(&invoke), component);
+        let first = read_from.entry(invoke).or_insert_with(|| component.clone());
+        assert_eq!(*first, component, "{invoke:?}");
+    }
+    // Every identifier with EctExecute and EctLinkIdRequest; every identifier with four LinkIds, every
+    // LinkId with four identifiers. What differs in one octet adds a few, which vary in both.
+    let of = |test: fn(&Operation) -> bool| read_from.keys().filter(|key| test(&key.operation)).count();
+    assert_eq!(of(|operation| *operation == Operation::Execute), 65_536);
+    assert_eq!(of(|operation| *operation == Operation::LinkRequest), 65_536);
+    assert!(of(|operation| matches!(operation, Operation::Explicit(_))) >= 8 * 65_536 - 16);
 }
 
 #[test]
-fn padding_and_further_elements_are_not_written() {
+fn further_elements_are_not_written() {
     let identifier: &[u8] = &[2, 1, 5];
     let six: &[u8] = &[2, 1, 6];
     let expected = [0xA1, 6, 2, 1, 5, 2, 1, 6];
     for component in [
         invoke(&[identifier, six]),
-        invoke(&[identifier, &[2, 2, 0, 6]]),
-        invoke(&[&[2, 2, 0, 5], six]),
+        invoke(&[identifier, six, &[2, 2, 0, 5]]),
         invoke(&[identifier, six, &[2, 1, 0]]),
         invoke(&[identifier, six, &[5, 0]]),
         invoke(&[identifier, six, &element(4, &[7; 22])]),
@@ -176,10 +219,12 @@ fn wrong_octets_are_a_fault() {
         assert!(fault.contains(words), "{fault}");
     };
     let short = [0xA1, 6, 2, 1, 0xFF, 2, 1, 6];
-    let long = [0xA1, 7, 2, 2, 0xFF, 0xFF, 2, 1, 6];
+    let long = [0xA1, 8, 2, 1, 0xFF, 2, 1, 6, 5, 0];
+    let padded = [0xA1, 7, 2, 2, 0xFF, 0xFF, 2, 1, 6];
     let unsigned = [0xA1, 7, 2, 2, 0, 0xFF, 2, 1, 6];
     for component in [&short as &[u8], &long] {
         said(component, &unsigned, "read as Some");
+        said(component, &padded, "read as None");
         said(component, &[0xA1, 7, 2, 1, 0xFF, 2, 1, 6], "read as None");
         said(component, &link_request(&[2, 1, 0xFF]), "read as Some");
     }

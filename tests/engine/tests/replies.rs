@@ -126,8 +126,9 @@ fn link_ids_go_with_a_transfer() {
     desk.call(2, 0, 10, 0);
     desk.call(3, 0, 10, 0);
     let links = [desk.link(1).unwrap(), desk.link(2).unwrap()];
-    // Padded, and still the same LinkId.
-    assert_eq!(desk.ask(1, &explicit(ID, &long_integer(links[1].0))), DONE);
+    // Padded it is no LinkId.
+    assert_eq!(desk.ask(1, &explicit(ID, &long_integer(links[1].0))), [0xA4, 6, 2, 1, 5, 0x81, 1, 2]);
+    assert_eq!(desk.ask(1, &explicit_link(ID, links[1])), DONE);
     for link in links {
         assert_eq!(desk.ask(3, &explicit_link(ID, link)), NOT_ASSIGNED);
     }

@@ -83,6 +83,53 @@ fn invoke_identifier_octets() {
     assert_eq!(identifier_octets(128), [0x02, 0x02, 0x00, 0x80]);
 }
 
+/// The answers to an integer as identifier of an EctExecute, as operation and as LinkId. Each of four LinkIds
+/// names a call that pairs with call 1; an EctExecute, with so many, gets error 7.
+fn integer_answers(integer: &[u8]) -> [Vec<u8>; 3] {
+    let mut desk = Desk::new(1, 1);
+    desk.call(1, 0, 10, 2);
+    for (reference, link) in [(2, 5), (3, -128), (4, 128), (5, -129)] {
+        desk.call(reference, 0, 10, 0);
+        desk.board.candidate = LinkId(link);
+        assert_eq!(desk.link(reference), Some(LinkId(link)));
+    }
+    let operation = records::invoke(&[ID, integer]);
+    [records::execute(integer), operation, records::explicit(ID, integer)]
+        .map(|component| desk.ok(&records::facility(Reference(1), &component)))
+}
+
+#[test]
+fn padded_integers_and_those_next_to_them() {
+    for integer in [[0x02, 0x02, 0x00, 0x05], [0x02, 0x02, 0xFF, 0x80]] {
+        let expected = [
+            reply(1, &[0xA4, 0x05, 0x05, 0x00, 0x80, 0x01, 0x01]),
+            reply(1, &[0xA4, 0x06, 0x02, 0x01, 0x05, 0x80, 0x01, 0x01]),
+            reply(1, &[0xA4, 0x06, 0x02, 0x01, 0x05, 0x81, 0x01, 0x02]),
+        ];
+        assert_eq!(integer_answers(&integer), expected, "{integer:02x?}");
+    }
+    for (integer, partner) in [([0x02, 0x02, 0x00, 0x80], 4), ([0x02, 0x02, 0xFF, 0x7F], 5)] {
+        let [_, _, high, low] = integer;
+        let (leg, digits) = (100 + partner as u32, format!("{partner:03}"));
+        let tells = [tell(101, 0, 0xEA, 1, 1, digits.as_bytes()), tell(leg, 0, 0xEA, 1, 1, b"001")];
+        let expected = [
+            reply(1, &[0xA3, 0x07, 0x02, 0x02, high, low, 0x02, 0x01, 0x07]),
+            reply(1, &[0xA4, 0x06, 0x02, 0x01, 0x05, 0x81, 0x01, 0x01]),
+            [reply(1, DONE), dropped(1, partner), tells.concat()].concat(),
+        ];
+        assert_eq!(integer_answers(&integer), expected, "{integer:02x?}");
+    }
+}
+
+#[test]
+fn link_ids_128_and_minus_129_not_live() {
+    let mut desk = Desk::new(1, 1);
+    desk.call(1, 0, 10, 2);
+    for link in [[0x02, 0x02, 0x00, 0x80], [0x02, 0x02, 0xFF, 0x7F]] {
+        assert_eq!(desk.ask(1, &records::explicit(ID, &link)), NOT_ASSIGNED);
+    }
+}
+
 #[test]
 fn candidate_goes_from_highest_to_lowest() {
     let mut desk = Desk::new(1, 0);
