@@ -81,6 +81,18 @@ module _ {s : List ℕ} {r : FirstElement} {e : Element} (f : FirstElementRead s
   pub no-contents : tag ≡ 6 → n ≡ 0 → ObjectRead s object.Other e
   no-contents t h = no-object (rw (found f q, h, eq-eqb tag 6 t))
 
+pub no-option : {A B : Type 0} {x : A} → none ≡ some x → B
+no-option e = absurd (let z : _≡_ {A = ℕ} 0 1 = cc in omega arith)
+
+-- an integer of the required form has those octets, and is not padded
+pub unpadded-is : (x : Option IntegerOctets) (o : IntegerOctets) → unlessPadded x ≡ some o → (x ≡ some o) × (padded o ≡ false)
+unpadded-is none o q = no-option q
+unpadded-is (some v) o q = go (padded v) refl q
+  where
+    go : (b : Bool) → padded v ≡ b → cond b none (some v) ≡ some o → (some v ≡ some o) × (padded o ≡ false)
+    go true p q = no-option q
+    go false p q = let e : v ≡ o = cc in (q, sym (ap padded e) ∙ p)
+
 -- ---- what a reader said, in the parts that the code passes on
 module _ {s : List ℕ} {r : FirstInteger} {e : Element} {i : Option IntegerOctets} (f : IntegerRead s r e i) where
   pub integer-is : {o : IntegerOctets} {n : ℕ} → r ≡ integer.Whole o n → i ≡ some o

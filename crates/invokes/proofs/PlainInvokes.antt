@@ -17,6 +17,7 @@ use Rattle.octets.specs.Numbers.{AreOctets, integerOf, padded, fewest, sameInte
 use Rattle.octets.proofs.Laws.{one-fewest, two-fewest}
 use Rattle.octets.proofs.Lists.{left, right, eqb-eq}
 use Rattle.octets.proofs.SameInteger.{sameInteger-eq}
+use Rattle.component.proofs.ReadingLaws.{no-option, unpadded-is}
 use Rattle.component.specs.declared.Operation.{Operation}
 use Rattle.component.specs.declared.Operation.the-variants.{EctExecute, ExplicitEctExecute, EctLinkIdRequest}
 use Rattle.component.specs.declared.Reading.the-variants.{Ignored, Rejected, Invoked}
@@ -24,14 +25,11 @@ use Rattle.component.specs.declared.Reject.{Reject}
 use Rattle.component.specs.declared.Reject.the-variants.{Null, Invoke}
 use Rattle.component.specs.Answers.{element, contentsOf, integer}
 use Rattle.component.specs.Elements.{Element, Bad, Whole, validHead, firstElement, wholeElements}
-use Rattle.component.specs.Reading.{oneOrTwo, integerOctetsIn, integerIn, unlessPadded, objectIn, restOf, ectObject}
+use Rattle.component.specs.Reading.{oneOrTwo, integerOctetsIn, integerIn, objectIn, restOf, ectObject}
 use Rattle.component.specs.Reading.{linkIdReading, globalReading, objectReading, localReading, operationReading}
 use Rattle.component.specs.Reading.{identifiedReading, identifierReading, invokeReading, framedReading, reading}
 use Rattle.invokes.specs.Invokes.{operationOctets, invokeOctets}
 use Rattle.invokes.specs.RoundTrip.{lookedAt, behind, NothingBehind}
-
-no-option : {A B : Type 0} {x : A} → none ≡ some x → B
-no-option e = absurd (let z : _≡_ {A = ℕ} 0 1 = cc in omega arith)
 
 -- ---- the first element, and the octets that it takes
 
@@ -55,15 +53,6 @@ one-or-two [] o q = no-option q
 one-or-two (a ∷ []) o q = let e : One a ≡ o = cc in rw (← e)
 one-or-two (a ∷ b ∷ []) o q = let e : Two a b ≡ o = cc in rw (← e)
 one-or-two (a ∷ b ∷ d ∷ c) o q = no-option q
-
--- an integer of the required form has those octets, and is not padded
-unpadded-is : (x : Option IntegerOctets) (o : IntegerOctets) → unlessPadded x ≡ some o → (x ≡ some o) × (padded o ≡ false)
-unpadded-is none o q = no-option q
-unpadded-is (some v) o q = go (padded v) refl q
-  where
-    go : (b : Bool) → padded v ≡ b → cond b none (some v) ≡ some o → (some v ≡ some o) × (padded o ≡ false)
-    go true p q = no-option q
-    go false p q = let e : v ≡ o = cc in (q, sym (ap padded e) ∙ p)
 
 integer-front : (s : List ℕ) (o : IntegerOctets) → integerIn (firstElement s) ≡ some o → s ≡ integer o ++ restOf (firstElement s)
 integer-front s o q = go (firstElement s) refl (unpadded-is (integerOctetsIn (firstElement s)) o q .0)
