@@ -1,5 +1,5 @@
 -- Laws of writing invokes, and the round trips.
 pub mod Examples
-pub mod PlainInvokes
+pub mod ReadInvokes
 pub mod RoundTrip
 pub mod WritingLaws

@@ -29,7 +29,7 @@ use Rattle.invokes.specs.declared.WriteAnswer.{WriteAnswer}
 use Rattle.invokes.specs.Invokes.{invokeOctets}
 use Rattle.invokes.specs.Contract.{answerNumber, answerCount}
 use Rattle.invokes.specs.RoundTrip.{OperationInRange, ReadAs, NothingBehind}
-use Rattle.invokes.proofs.PlainInvokes.{plain-octets}
+use Rattle.invokes.proofs.ReadInvokes.{read-octets}
 use Rattle.component.proofs.Promises.{ReadMet, read-promise}
 use Rattle.invokes.proofs.write_invoke.Reads as write-contract
 
@@ -105,7 +105,7 @@ written-read op i h k before after w room p r q =
 -- octets that are read as an invoke, with nothing behind the last element looked at, are the octets of that invoke
 invoke-is : (s : List ℕ) → AreOctets s → (r : Reading) → ReadMet s r → (op : Operation) (i : InvokeIdentifier) → ReadAs op i r → NothingBehind op s → s ≡ invokeOctets op i
 invoke-is s h r q op i e p =
-    plain-octets s h (e .received) op (sym (read-promise s r q) ∙ e .invoked) p ∙ ap (λ (z : ℤ). invokeOctets op (record { 0 = z })) (e .identifier)
+    read-octets s h (e .received) op (sym (read-promise s r q) ∙ e .invoked) p ∙ ap (λ (z : ℤ). invokeOctets op (record { 0 = z })) (e .identifier)
 
 -- and so what writing it gives
 pub read-written : (s : List ℕ) → AreOctets s → (r : Reading) → ReadMet s r → (op : Operation) (i : InvokeIdentifier) → ReadAs op i r → NothingBehind op s →

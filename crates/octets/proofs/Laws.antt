@@ -149,7 +149,7 @@ integer-fewest (pos n) f = read-pos n f (decLt n 128)
 integer-fewest (negsuc n) f = read-neg n f (decLt n 128)
 
 -- ---- the fewest octets and padding
-pub unpadded : (a b : ℕ) → 0 < firstNine a b → firstNine a b < 511 → padded (Two a b) ≡ false
+unpadded : (a b : ℕ) → 0 < firstNine a b → firstNine a b < 511 → padded (Two a b) ≡ false
 unpadded a b h k =
     let e : firstNine a b ≡ 0 → ⊥ = λ (q : firstNine a b ≡ 0). omega arith in
     let f : firstNine a b ≡ 511 → ⊥ = λ (q : firstNine a b ≡ 511). omega arith in

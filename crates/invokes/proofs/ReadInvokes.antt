@@ -207,10 +207,10 @@ framed-found (n ∷ c) h o op q p = go (eqb n (length c)) (wholeElements 4 c) re
     go true false e q = no-invoke q
     go false d e q = no-invoke q
 
-pub plain-octets : (s : List ℕ) → AreOctets s → (o : IntegerOctets) (op : Operation) → reading s ≡ Invoked o op → NothingBehind op s → s ≡ invokeOctets op (record { 0 = integerOf o })
+pub read-octets : (s : List ℕ) → AreOctets s → (o : IntegerOctets) (op : Operation) → reading s ≡ Invoked o op → NothingBehind op s → s ≡ invokeOctets op (record { 0 = integerOf o })
 unfolding reading
-plain-octets [] h o op q p = no-invoke q
-plain-octets (t ∷ s) h o op q p = go (leb 0xA2 t && leb t 0xA4) (eqb t 0xA1) refl q
+read-octets [] h o op q p = no-invoke q
+read-octets (t ∷ s) h o op q p = go (leb 0xA2 t && leb t 0xA4) (eqb t 0xA1) refl q
   where
     go : (b d : Bool) → eqb t 0xA1 ≡ d → cond b Ignored (cond d (framedReading s) (Rejected (Null 0))) ≡ Invoked o op → t ∷ s ≡ invokeOctets op (record { 0 = integerOf o })
     go true d e q = absurd (let z : _≡_ {A = ℕ} 0 1 = cc in omega arith)
