@@ -2,4 +2,5 @@
 pub mod Elements
 pub mod Reading
 pub mod Answers
+pub mod Arguments
 pub mod Code

@@ -14,6 +14,8 @@ use Rattle.component.specs.declared.values.FirstInteger.{FirstInteger}
 use Rattle.component.specs.declared.values.FirstInteger.the-variants as integer
 use Rattle.component.specs.declared.values.FirstObject.{FirstObject}
 use Rattle.component.specs.declared.values.FirstObject.the-variants as object
+use Rattle.component.specs.declared.arguments.Arguments.{Arguments}
+use Rattle.component.specs.declared.arguments.Arguments.the-variants as arguments
 use Rattle.component.specs.Elements.{Element, Bad, Whole, constructed}
 use Rattle.component.specs.Reading.{objectIn, restOf}
 
@@ -79,3 +81,17 @@ pub record ObjectRead (s : List ℕ) (r : FirstObject) (e : Element) : Type 0 wh
   pub is : objectOctets r s ≡ objectIn e
   pub rest : objectRest r s (restOf e) ≡ restOf e
   pub within : objectEnd r ≤ length s
+
+-- ---- the octets behind a part of a component
+abbrev pub argumentOctets : Arguments → List ℕ → Option (List ℕ)
+argumentOctets (arguments.From n) s = some (drop n s)
+argumentOctets arguments.None s = none
+
+abbrev pub argumentsBegin : Arguments → ℕ
+argumentsBegin (arguments.From n) = n
+argumentsBegin arguments.None = 0
+
+-- r says which octets o of s these are
+pub record ArgumentsRead (s : List ℕ) (r : Arguments) (o : Option (List ℕ)) : Type 0 where
+  pub is : argumentOctets r s ≡ o
+  pub within : argumentsBegin r ≤ length s
