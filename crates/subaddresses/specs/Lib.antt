@@ -1,0 +1,2 @@
+-- Subaddresses that joined parties send each other.
+pub mod SubaddressTransfer
