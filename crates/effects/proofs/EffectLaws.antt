@@ -40,8 +40,8 @@ use Rattle.octets.specs.declared.CallReference.{CallReference}
 use Rattle.octets.specs.declared.IntegerOctets.{IntegerOctets}
 use Rattle.octets.specs.declared.LinkId.{LinkId}
 use Rattle.rules.specs.Checks as checks
-use Rattle.rules.specs.Checks.{Refuse, Accept, accept, opening, Decision, changeOf, assignedBy, serviceDecision, decideOpen, decideProgress, mayProgress, decideHold, mayHold, decideRelease, decideAnswer, decideAlerting, decideFacility, decide}
-use Rattle.rules.specs.Replies.{Written, nothing, numberAt, Tell, facility, transferredActive, answerTold, transferReplies}
+use Rattle.rules.specs.Checks.{Refuse, Accept, accept, opening, Decision, changeOf, assignedBy, serviceDecision, decideOpen, decideProgress, mayProgress, decideHold, mayHold, decideRelease, decideAnswer, decideAlerting, decideFacility, decidePassing, decideLegFacility, decide}
+use Rattle.rules.specs.Replies.{Written, nothing, numberAt, Tell, facility, transferredActive, answerTold, transferReplies, passedOn}
 use Rattle.rules.specs.Serving.{serve}
 use Rattle.rules.specs.Step.{replies, candidateBy, boardAfter, rowsAfter, candidateAfter, decision}
 use Rattle.board.specs.declared.Change.the-variants as change
@@ -54,6 +54,8 @@ use Rattle.replies.specs.declared.Out.{Out}
 use Rattle.rules.specs.declared.TellNumber.{TellNumber}
 use Rattle.replies.specs.declared.FarParty.{FarParty}
 use Rattle.rules.specs.declared.Service.{Service}
+use Rattle.subaddresses.specs.declared.LegComponent.{LegComponent}
+use Rattle.subaddresses.specs.SubaddressTransfer.{isSubaddressTransfer, saysTransfer}
 
 -- ---- by parts
 
@@ -182,6 +184,19 @@ module _ {e : Effect} where
     pub release-some : {x : Entry} (t : Connection) → f ≡ found-entry.This x → x .connection ≡ t → EffectAnywhere e (decideRelease (some (entry (x .leg) t))) → EffectAnywhere e (decideRelease (entryFound f))
     release-some {x} t h i k =
         subst⁻¹ (λ (v : FoundEntry). EffectAnywhere e (decideRelease (entryFound v))) h (subst⁻¹ (λ (v : Connection). EffectAnywhere e (decideRelease (some (entry (x .leg) v)))) i k)
+
+  module _ (n : ℕ) (c : List ℕ) {f : FoundEntry} where
+    pub passing-none : f ≡ found-entry.Nothing → EffectAnywhere e (Refuse refusal.NoSuchLeg) → EffectAnywhere e (decideLegFacility n c (entryFound f))
+    passing-none h k = subst⁻¹ (λ (v : FoundEntry). EffectAnywhere e (decideLegFacility n c (entryFound v))) h k
+
+    pub passing-some : {x : Entry} (t : Connection) → f ≡ found-entry.This x → x .connection ≡ t → EffectAnywhere e (decidePassing n c t) → EffectAnywhere e (decideLegFacility n c (entryFound f))
+    passing-some t h i k = subst⁻¹ (λ (v : FoundEntry). EffectAnywhere e (decideLegFacility n c (entryFound v))) h (subst⁻¹ (λ (v : Connection). EffectAnywhere e (decidePassing n c v)) i k)
+
+  -- v says whether the component is such an invoke
+  pub passing-by : (n : ℕ) (c : List ℕ) (p : ℕ) (a : Bool) {v : LegComponent} (w : LegComponent) → saysTransfer v ≡ isSubaddressTransfer (take n c) → v ≡ w →
+      EffectAnywhere e (cond (saysTransfer w) (Accept none (passedOn p n c)) (Refuse refusal.NoSuchInvoke)) → EffectAnywhere e (decidePassing n c (WithPartner p a))
+  passing-by n c p a w h i k =
+      subst (λ (x : Bool). EffectAnywhere e (cond x (Accept none (passedOn p n c)) (Refuse refusal.NoSuchInvoke))) (sym (ap saysTransfer i) ∙ h) k
 
 -- ---- what is found on the board
 

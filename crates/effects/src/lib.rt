@@ -17,6 +17,8 @@ use facility::facility;
 use octets::LinkId;
 use opening::digits_of;
 use opening::open;
+use passing::component_of;
+use passing::leg_facility;
 use replies::Out;
 use replies::nothing;
 use replies::number_as_told;
@@ -36,6 +38,7 @@ mod call_states;
 mod ending;
 mod facility;
 mod opening;
+mod passing;
 
 pub enum Acceptance {
     Accepted,
@@ -119,6 +122,9 @@ pub fn effect_of(board: Board, event: &[u8]) -> Effect
         RequestHead::Release(leg) => release(entry_at(board, leg)),
         RequestHead::Facility(reference, n) => facility(board, reference, &event[4..n + 4]),
         RequestHead::Answer(leg) => answer(board, entry_at(board, leg), leg),
+        RequestHead::LegFacility(leg, count) => {
+            leg_facility(entry_at(board, leg), count, component_of(event))
+        }
     }
 }
 

@@ -8,7 +8,7 @@ use mathlib.Core.List.{List, [], _∷_}
 use lib.Dec.{eqb, leb}
 use lib.ListN.{length, getD, set, take, drop, length-drop, drop-of-length-le}
 use lib.Seq.{take-all, drop-cons, drop-drop, getD-drop, take-suc, take-suc-set}
-use borrow.Author.Tests.{eq-eqb, ne-eqb, le-leb, lt-leb, not-true, not-false}
+use borrow.Author.Tests.{eq-eqb, ne-eqb, le-leb, lt-leb, leb-true, not-true, not-false}
 use Rattle.octets.specs.Lists.{all}
 use Rattle.octets.specs.Numbers.{numberOf}
 use Rattle.octets.specs.declared.CallReference.{CallReference}
@@ -19,14 +19,15 @@ use Rattle.board.specs.declared.AuxiliaryState.{AuxiliaryState}
 use Rattle.board.specs.declared.AuxiliaryState.the-variants.{Idle, HoldRequest, CallHeld, RetrieveRequest}
 use Rattle.board.specs.States.{validReference}
 use Rattle.board.specs.Soundness.{isDigit, zeros, validDigits}
+use Rattle.octets.proofs.Lists.{left as and-left, right as and-right}
 use Rattle.octets.proofs.Places.{rest}
 use Rattle.events.specs.declared.Refusal.{Refusal}
 use Rattle.events.specs.declared.Refusal.the-variants.{WrongLength, UnknownKind, FieldOutOfRange}
 use Rattle.events.specs.declared.records.RequestHead.{RequestHead}
 use Rattle.events.specs.declared.records.RequestHead.the-variants as head
 use Rattle.events.specs.Records.{bodyLength, recordLength}
-use Rattle.events.specs.EventRecords.{Request, Malformed, Open, Progress, Hold, Release, Facility, Answer, field, directionOf}
-use Rattle.events.specs.EventRecords.{openBody, progressBody, holdBody, facilityBody, ranged, sized, ofKind, request}
+use Rattle.events.specs.EventRecords.{Request, Malformed, Open, Progress, Hold, Release, Facility, Answer, LegFacility, field, directionOf}
+use Rattle.events.specs.EventRecords.{openBody, progressBody, holdBody, validComponent, facilityBody, legFacilityBody, ranged, sized, ofKind, request}
 use Rattle.events.specs.Code.RecordValues.{requestOf, RecordRead}
 
 -- ---- a test of each octet, from place i on
@@ -187,6 +188,31 @@ module _ {os : List ℕ} {r : ℕ} {v : Bool} (k : Referenced 3 os r v) where
         pub hold-unlisted : (getD os 3 0 ≡ 3 → ⊥) → RecordRead os (head.Malformed FieldOutOfRange) (ofKind 3 (drop 1 os))
         hold-unlisted h3 = malformed (hold-is k ∙ rw (ne-eqb (getD os 3 0) 0 h0, ne-eqb (getD os 3 0) 1 h1, ne-eqb (getD os 3 0) 2 h2, ne-eqb (getD os 3 0) 3 h3))
 
+-- ---- components
+module _ (most : ℕ) (s : List ℕ) where
+  pub component-empty : getD s 0 0 < 1 → false ≡ validComponent most (getD s 0 0) (drop 1 s)
+  component-empty h = rw (lt-leb 1 (getD s 0 0) h)
+
+  pub component-long : 1 ≤ getD s 0 0 → most < getD s 0 0 → false ≡ validComponent most (getD s 0 0) (drop 1 s)
+  component-long h k = rw (le-leb 1 (getD s 0 0) h, lt-leb (getD s 0 0) most k)
+
+  pub component-fill : 1 ≤ getD s 0 0 → getD s 0 0 ≤ most → {w : Bool} → w ≡ zeros (take (length s - (getD s 0 0 + 1)) (drop (getD s 0 0 + 1) s)) → w ≡ validComponent most (getD s 0 0) (drop 1 s)
+  component-fill h k g =
+      let e : 1 + getD s 0 0 ≡ getD s 0 0 + 1 = omega arith in
+      g ∙ rw (rest (getD s 0 0 + 1) s, le-leb 1 (getD s 0 0) h, le-leb (getD s 0 0) most k, drop-drop (getD s 0 0) 1 s, e)
+
+-- a component whose count lies at place i of a record
+abbrev pub componentAt : ℕ → ℕ → List ℕ → Bool
+componentAt most i os = validComponent most (getD (take (length os - i) (drop i os)) 0 0) (drop 1 (take (length os - i) (drop i os)))
+
+component-at : (most i : ℕ) (os : List ℕ) {w b : Bool} → w ≡ componentAt most i os → w ≡ b → validComponent most (getD os i 0) (drop (i + 1) os) ≡ b
+component-at most i os g q =
+    let z : i + 0 ≡ i = omega arith in
+    rw (rest i os, getD-drop i os 0 0, z, drop-drop 1 i os) at (sym g ∙ q)
+
+count-most : (most n : ℕ) (c : List ℕ) → validComponent most n c ≡ true → n ≤ most
+count-most most n c h = leb-true n most (and-right (leb 1 n) (leb n most) (and-left (leb 1 n && leb n most) (zeros (drop n c)) h))
+
 -- ---- Facility
 facility-is : {os : List ℕ} {r : ℕ} {v : Bool} → Referenced 5 os r v → ofKind 5 (drop 1 os) ≡ ranged (facilityBody r (getD os 3 0) (drop 4 os))
 facility-is {os = []} k = absurd (omega (arith, k .long))
@@ -197,34 +223,47 @@ module _ {os : List ℕ} {r : ℕ} {v : Bool} (k : Referenced 5 os r v) where
   facility-reference t =
       let n = getD os 3 0 in
       let p : Refused (Facility r (take n (drop 4 os))) = record { is = rw (wrong k t) } in
-      malformed (facility-is k ∙ either (leb 1 n && leb n 32 && zeros (drop n (drop 4 os))) p unlisted .is)
+      malformed (facility-is k ∙ either (validComponent 32 n (drop 4 os)) p unlisted .is)
 
-  pub facility-empty : getD os 3 0 < 1 → RecordRead os (head.Malformed FieldOutOfRange) (ofKind 5 (drop 1 os))
-  facility-empty h = malformed (facility-is k ∙ rw (lt-leb 1 (getD os 3 0) h))
+  -- w says whether the component is right
+  module _ {w : Bool} (g : w ≡ componentAt 32 3 os) where
+    pub facility-component : not w ≡ true → RecordRead os (head.Malformed FieldOutOfRange) (ofKind 5 (drop 1 os))
+    facility-component t = malformed (facility-is k ∙ rw (component-at 32 3 os g (not-true _ t)))
 
-  module _ (h1 : 1 ≤ getD os 3 0) where
-    pub facility-long : 32 < getD os 3 0 → RecordRead os (head.Malformed FieldOutOfRange) (ofKind 5 (drop 1 os))
-    facility-long h = malformed (facility-is k ∙ rw (le-leb 1 (getD os 3 0) h1, lt-leb (getD os 3 0) 32 h))
+    pub facility : not v ≡ false → not w ≡ false → RecordRead os (head.Facility (record { 0 = r }) (getD os 3 0)) (ofKind 5 (drop 1 os))
+    facility t u =
+        let l : length os ≡ recordLength 5 = k .long in
+        let e = component-at 32 3 os g (not-false _ u) in
+        let m = count-most 32 (getD os 3 0) (drop 4 os) e in
+        record {
+          is = sym (facility-is k ∙ rw (e, right k t));
+          whole = refl;
+          within = omega arith;
+          small = omega arith;
+        }
 
-    -- w says whether the fill octets are zeros
-    module _ (h2 : getD os 3 0 ≤ 32) {w : Bool} (g : w ≡ zeros (take (length os - (getD os 3 0 + 4)) (drop (getD os 3 0 + 4) os))) where
-      filled : {b : Bool} → w ≡ b → zeros (drop (getD os 3 0) (drop 4 os)) ≡ b
-      filled q =
-          let s : 4 + getD os 3 0 ≡ getD os 3 0 + 4 = omega arith in
-          rw (drop-drop (getD os 3 0) 4 os, s) (sym (rw (rest (getD os 3 0 + 4) os) at g) ∙ q)
+-- ---- Leg facility
+leg-facility-is : (os : List ℕ) → length os ≡ recordLength 7 → ofKind 7 (drop 1 os) ≡ ranged (LegFacility (field 1 4 os) (getD os 5 0) (drop 6 os))
+leg-facility-is [] l = absurd (omega (arith, l))
+leg-facility-is (o ∷ b) l = of-length (o ∷ b) 7 (legFacilityBody b) l
 
-      pub facility-fill : not w ≡ true → RecordRead os (head.Malformed FieldOutOfRange) (ofKind 5 (drop 1 os))
-      facility-fill t = malformed (facility-is k ∙ rw (le-leb 1 (getD os 3 0) h1, le-leb (getD os 3 0) 32 h2, filled (not-true _ t)))
+module _ (os : List ℕ) (l : length os ≡ recordLength 7) {w : Bool} (g : w ≡ componentAt 64 5 os) where
+  sixty-four : length (drop 6 os) ≡ 64
+  sixty-four = omega (arith, length-drop 6 os, l)
 
-      pub facility : not v ≡ false → not w ≡ false → RecordRead os (head.Facility (record { 0 = r }) (getD os 3 0)) (ofKind 5 (drop 1 os))
-      facility t u =
-          let l : length os ≡ recordLength 5 = k .long in
-          record {
-            is = sym (facility-is k ∙ rw (le-leb 1 (getD os 3 0) h1, le-leb (getD os 3 0) 32 h2, filled (not-false _ u), right k t));
-            whole = refl;
-            within = omega arith;
-            small = h2;
-          }
+  pub leg-facility-component : not w ≡ true → RecordRead os (head.Malformed FieldOutOfRange) (ofKind 7 (drop 1 os))
+  leg-facility-component t = malformed (leg-facility-is os l ∙ rw (eq-eqb (length (drop 6 os)) 64 sixty-four, component-at 64 5 os g (not-true _ t)))
+
+  pub leg-facility : not w ≡ false → {n : ℕ} → n ≡ field 1 4 os → RecordRead os (head.LegFacility n (getD os 5 0)) (ofKind 7 (drop 1 os))
+  leg-facility u p =
+      let e = component-at 64 5 os g (not-false _ u) in
+      let m = count-most 64 (getD os 5 0) (drop 6 os) e in
+      record {
+        is = sym (leg-facility-is os l ∙ rw (p, eq-eqb (length (drop 6 os)) 64 sixty-four, e));
+        whole = sym l;
+        within = omega (arith, l, m);
+        small = m;
+      }
 
 -- ---- Open
 open-is : {os : List ℕ} {r : ℕ} {v : Bool} → Referenced 1 os r v
@@ -281,9 +320,10 @@ data Kind : ℕ → Type 0 where
   is-release : Kind 4
   is-facility : Kind 5
   is-answer : Kind 6
+  is-leg-facility : Kind 7
   not-listed : {k : ℕ} → bodyLength k ≡ 0 → ((b : List ℕ) → ofKind k b ≡ Malformed UnknownKind) → Kind k
 
-beyond : (k : ℕ) → 6 < k → Kind k
+beyond : (k : ℕ) → 7 < k → Kind k
 beyond k h =
     let t = ne-eqb k 1 (λ (e : k ≡ 1). omega (arith, h, e)) in
     let u = ne-eqb k 2 (λ (e : k ≡ 2). omega (arith, h, e)) in
@@ -291,7 +331,8 @@ beyond k h =
     let w = ne-eqb k 4 (λ (e : k ≡ 4). omega (arith, h, e)) in
     let x = ne-eqb k 5 (λ (e : k ≡ 5). omega (arith, h, e)) in
     let y = ne-eqb k 6 (λ (e : k ≡ 6). omega (arith, h, e)) in
-    not-listed {k = k} (rw (t, u, v, w, x, y)) (λ b. rw (t, u, v, w, x, y))
+    let z = ne-eqb k 7 (λ (e : k ≡ 7). omega (arith, h, e)) in
+    not-listed {k = k} (rw (t, u, v, w, x, y, z)) (λ b. rw (t, u, v, w, x, y, z))
 
 kind-of : (k : ℕ) → Kind k
 kind-of zero = not-listed refl (λ b. refl)
@@ -301,7 +342,8 @@ kind-of (suc (suc (suc zero))) = is-hold
 kind-of (suc (suc (suc (suc zero)))) = is-release
 kind-of (suc (suc (suc (suc (suc zero))))) = is-facility
 kind-of (suc (suc (suc (suc (suc (suc zero)))))) = is-answer
-kind-of (suc (suc (suc (suc (suc (suc (suc k))))))) = beyond (suc (suc (suc (suc (suc (suc (suc k))))))) (omega arith)
+kind-of (suc (suc (suc (suc (suc (suc (suc zero))))))) = is-leg-facility
+kind-of (suc (suc (suc (suc (suc (suc (suc (suc k)))))))) = beyond (suc (suc (suc (suc (suc (suc (suc (suc k)))))))) (omega arith)
 
 without-body : {k : ℕ} → Kind k → (b : List ℕ) → recordLength k ≡ 1 → ofKind k b ≡ Malformed UnknownKind
 without-body is-open b h = absurd (omega (arith, h))
@@ -310,6 +352,7 @@ without-body is-hold b h = absurd (omega (arith, h))
 without-body is-release b h = absurd (omega (arith, h))
 without-body is-facility b h = absurd (omega (arith, h))
 without-body is-answer b h = absurd (omega (arith, h))
+without-body is-leg-facility b h = absurd (omega (arith, h))
 without-body (not-listed e f) b h = f b
 
 unsized : (k : ℕ) (b : List ℕ) (q : Request) → (suc (length b) ≡ recordLength k → ⊥) → sized k b q ≡ Malformed WrongLength
@@ -322,6 +365,7 @@ other-length is-hold b l h = unsized 3 b (holdBody (field 0 2 b) (getD b 2 0)) h
 other-length is-release b l h = unsized 4 b (Release (field 0 4 b)) h
 other-length is-facility b l h = unsized 5 b (facilityBody (field 0 2 b) (getD b 2 0) (drop 3 b)) h
 other-length is-answer b l h = unsized 6 b (Answer (field 0 4 b)) h
+other-length is-leg-facility b l h = unsized 7 b (legFacilityBody b) h
 other-length (not-listed e f) b l h = absurd (l (omega (arith, e)))
 
 -- n is the length that the kind has
@@ -336,17 +380,18 @@ wrong-length [] s e l h = absurd (s refl)
 wrong-length (k ∷ b) s e l h = malformed (other-length (kind-of k) b (λ (q : recordLength k ≡ 1). l (e ∙ q)) (λ (q : suc (length b) ≡ recordLength k). h (q ∙ sym e)))
 
 -- the last kind
-last-kind : {k : ℕ} → Kind k → (recordLength k ≡ 1 → ⊥) → (k ≡ 1 → ⊥) → (k ≡ 2 → ⊥) → (k ≡ 3 → ⊥) → (k ≡ 4 → ⊥) → (k ≡ 5 → ⊥) → k ≡ 6
-last-kind is-open l a b c d e = absurd (a refl)
-last-kind is-progress l a b c d e = absurd (b refl)
-last-kind is-hold l a b c d e = absurd (c refl)
-last-kind is-release l a b c d e = absurd (d refl)
-last-kind is-facility l a b c d e = absurd (e refl)
-last-kind is-answer l a b c d e = refl
-last-kind (not-listed f g) l a b c d e = absurd (l (omega (arith, f)))
+last-kind : {k : ℕ} → Kind k → (recordLength k ≡ 1 → ⊥) → (k ≡ 1 → ⊥) → (k ≡ 2 → ⊥) → (k ≡ 3 → ⊥) → (k ≡ 4 → ⊥) → (k ≡ 5 → ⊥) → (k ≡ 6 → ⊥) → k ≡ 7
+last-kind is-open l a b c d e f = absurd (a refl)
+last-kind is-progress l a b c d e f = absurd (b refl)
+last-kind is-hold l a b c d e f = absurd (c refl)
+last-kind is-release l a b c d e f = absurd (d refl)
+last-kind is-facility l a b c d e f = absurd (e refl)
+last-kind is-answer l a b c d e f = absurd (f refl)
+last-kind is-leg-facility l a b c d e f = refl
+last-kind (not-listed g h) l a b c d e f = absurd (l (omega (arith, g)))
 
-pub answer-kind : (k : ℕ) {n : ℕ} → n ≡ recordLength k → (n ≡ 1 → ⊥) → (k ≡ 1 → ⊥) → (k ≡ 2 → ⊥) → (k ≡ 3 → ⊥) → (k ≡ 4 → ⊥) → (k ≡ 5 → ⊥) → k ≡ 6
-answer-kind k e l = last-kind (kind-of k) (λ (q : recordLength k ≡ 1). l (e ∙ q))
+pub leg-facility-kind : (k : ℕ) {n : ℕ} → n ≡ recordLength k → (n ≡ 1 → ⊥) → (k ≡ 1 → ⊥) → (k ≡ 2 → ⊥) → (k ≡ 3 → ⊥) → (k ≡ 4 → ⊥) → (k ≡ 5 → ⊥) → (k ≡ 6 → ⊥) → k ≡ 7
+leg-facility-kind k e l = last-kind (kind-of k) (λ (q : recordLength k ≡ 1). l (e ∙ q))
 
 -- ---- what a caller takes out of a record
 module _ {os : List ℕ} {r : RequestHead} {q : Request} (f : RecordRead os r q) where
@@ -359,17 +404,23 @@ module _ {os : List ℕ} {r : RequestHead} {q : Request} (f : RecordRead os r q)
   pub component-within : {n : CallReference} {m : ℕ} → r ≡ head.Facility n m → m + 4 ≤ length os
   component-within e = rw e at (f .within)
 
-  pub component-small : {n : CallReference} {m : ℕ} → r ≡ head.Facility n m → m ≤ 32
+  pub component-small : {n : CallReference} {m : ℕ} → r ≡ head.Facility n m → m ≤ 64
   component-small e = rw e at (f .small)
 
--- the digits of an Open, which end the record
-pub digits-are : (os : List ℕ) → length os ≡ recordLength 1 → take 15 (drop 10 os) ≡ drop 10 os
-digits-are os l = take-all 15 (drop 10 os) (omega (arith, length-drop 10 os))
+  pub leg-facility-length : {l m : ℕ} → r ≡ head.LegFacility l m → length os ≡ recordLength 7
+  leg-facility-length e = sym (rw e at (f .whole))
 
--- one octet copied more
-pub copied : (os ds : List ℕ) (i : ℕ) → recordLength 1 ≤ length os → length ds ≡ 15 → i < 15 → take i ds ≡ take i (drop 10 os)
-    → take (i + 1) (set ds i (getD os (i + 10) 0)) ≡ take (i + 1) (drop 10 os)
-copied os ds i l m h e =
-    let s : 10 + i ≡ i + 10 = omega arith in
-    let d : i < length (drop 10 os) = omega (arith, length-drop 10 os) in
-    rw (add-one, take-suc-set ds i (getD os (i + 10) 0) (omega arith), take-suc (drop 10 os) i 0 d, e, getD-drop 10 os i 0, s)
+  pub leg-component-small : {l m : ℕ} → r ≡ head.LegFacility l m → m ≤ 64
+  leg-component-small e = rw e at (f .small)
+
+-- the last n octets of a record, from place i on
+pub last-octets : (n i : ℕ) (os : List ℕ) → length os ≡ i + n → take n (drop i os) ≡ drop i os
+last-octets n i os l = take-all n (drop i os) (omega (arith, length-drop i os))
+
+-- one octet copied more, of n from place i on
+pub copied : (n i : ℕ) (os ds : List ℕ) (j : ℕ) → i + n ≤ length os → length ds ≡ n → j < n → take j ds ≡ take j (drop i os)
+    → take (j + 1) (set ds j (getD os (j + i) 0)) ≡ take (j + 1) (drop i os)
+copied n i os ds j l m h e =
+    let s : i + j ≡ j + i = omega arith in
+    let d : j < length (drop i os) = omega (arith, length-drop i os) in
+    rw (add-one, take-suc-set ds j (getD os (j + i) 0) (omega arith), take-suc (drop i os) j 0 d, e, getD-drop i os j 0, s)

@@ -6,7 +6,7 @@ use mathlib.Core.List.{List, [], _∷_}
 use lib.ListN.{getD}
 use Rattle.events.specs.declared.Refusal.{Refusal}
 use Rattle.events.specs.declared.Refusal.the-variants.{BufferTooSmall, UnsoundBoard, WrongLength, UnknownKind, FieldOutOfRange}
-use Rattle.events.specs.declared.Refusal.the-variants.{LegOnBoard, ReferenceInUse, NoEmptyRow, NoSuchCall, NoSuchLeg, NotPermitted}
+use Rattle.events.specs.declared.Refusal.the-variants.{LegOnBoard, ReferenceInUse, NoEmptyRow, NoSuchCall, NoSuchLeg, NotPermitted, NoSuchInvoke}
 use Rattle.events.specs.Refusals.{refusalNumber}
 
 -- from 1 on
@@ -23,6 +23,7 @@ inOrder =
     ∷ NoSuchCall
     ∷ NoSuchLeg
     ∷ NotPermitted
+    ∷ NoSuchInvoke
     ∷ []
 
 abbrev refusalOf : ℕ → Refusal
@@ -40,6 +41,7 @@ own-number NoEmptyRow = refl
 own-number NoSuchCall = refl
 own-number NoSuchLeg = refl
 own-number NotPermitted = refl
+own-number NoSuchInvoke = refl
 
 pub refusal-injective : (c d : Refusal) → refusalNumber c ≡ refusalNumber d → c ≡ d
 refusal-injective c d e = sym (own-number c) ∙ ap refusalOf e ∙ own-number d
@@ -56,3 +58,4 @@ refusal-not-zero NoEmptyRow = omega arith
 refusal-not-zero NoSuchCall = omega arith
 refusal-not-zero NoSuchLeg = omega arith
 refusal-not-zero NotPermitted = omega arith
+refusal-not-zero NoSuchInvoke = omega arith

@@ -27,6 +27,8 @@ pub data Request : Type 0 where
   Release : (leg : ℕ) → Request
   Facility : (reference : ℕ) (component : List ℕ) → Request
   Answer : (leg : ℕ) → Request
+  -- the component is the first `count` of the octets
+  LegFacility : (leg count : ℕ) (octets : List ℕ) → Request
 
 -- the number in n octets from place i of a body
 abbrev pub field : ℕ → ℕ → List ℕ → ℕ
@@ -59,9 +61,17 @@ holdBody r a =
     (cond (eqb a 2) (Hold r CallHeld)
     (cond (eqb a 3) (Hold r RetrieveRequest) (Malformed FieldOutOfRange))))
 
--- "reference 2, count 1 (1 to 32), component, then zeros"
+-- "count 1 (1 to 32), component, then zeros", and later 1 to 64
+abbrev pub validComponent : ℕ → ℕ → List ℕ → Bool
+validComponent most n c = leb 1 n && leb n most && zeros (drop n c)
+
+-- "reference 2", then the component
 abbrev pub facilityBody : ℕ → ℕ → List ℕ → Request
-facilityBody r n c = cond (leb 1 n && leb n 32 && zeros (drop n c)) (Facility r (take n c)) (Malformed FieldOutOfRange)
+facilityBody r n c = cond (validComponent 32 n c) (Facility r (take n c)) (Malformed FieldOutOfRange)
+
+-- "leg 4, count 1 of 1 to 64, component, zeros" (document 02, slip 5); the component and the zeros end the body
+abbrev pub legFacilityBody : List ℕ → Request
+legFacilityBody b = LegFacility (field 0 4 b) (getD b 4 0) (drop 5 b)
 
 -- the fields that remain to be judged
 abbrev pub inRange : Request → Bool
@@ -72,6 +82,7 @@ inRange (Hold r a) = validReference r
 inRange (Release l) = true
 inRange (Facility r c) = validReference r
 inRange (Answer l) = true
+inRange (LegFacility l n c) = eqb (length c) 64 && validComponent 64 n c
 
 -- "5: a field outside its range, fill octets included"
 abbrev pub ranged : Request → Request
@@ -90,7 +101,8 @@ ofKind k b =
     (cond (eqb k 4) (sized 4 b (Release (field 0 4 b)))
     (cond (eqb k 5) (sized 5 b (facilityBody (field 0 2 b) (getD b 2 0) (drop 3 b)))
     (cond (eqb k 6) (sized 6 b (Answer (field 0 4 b)))
-    (Malformed UnknownKind))))))
+    (cond (eqb k 7) (sized 7 b (legFacilityBody b))
+    (Malformed UnknownKind)))))))
 
 -- the kind, then the body; "3: record empty"
 unfoldable pub request : List ℕ → Request

@@ -4,7 +4,7 @@ ghost use Rattle.events.specs.Refusals.{refusalNumber};
 
 pub mod records;
 
-// Why an event is refused, in the order of the checks; document 01 numbers them from 1 to 11.
+// Why an event is refused, in the order of the checks; documents 01 and 02 number them from 1 to 12.
 pub enum Refusal {
     BufferTooSmall,
     UnsoundBoard,
@@ -17,6 +17,7 @@ pub enum Refusal {
     NoSuchCall,
     NoSuchLeg,
     NotPermitted,
+    NoSuchInvoke,
 }
 
 // The number that a refusal is returned as.
@@ -35,5 +36,6 @@ pub fn refusal_number(refusal: Refusal) -> u8
         Refusal::NoSuchCall => 9,
         Refusal::NoSuchLeg => 10,
         Refusal::NotPermitted => 11,
+        Refusal::NoSuchInvoke => 12,
     }
 }

@@ -6,17 +6,17 @@ use board::Direction;
 use octets::CallReference;
 ghost use Prim.Native.Nat.{_+_, _≤_};
 ghost use mathlib.Core.Path.{_≡_};
-ghost use lib.ListN.{length, drop};
+ghost use lib.ListN.{length, drop, getD};
 ghost use Rattle.octets.specs.Lists.{all};
 ghost use Rattle.board.specs.States.{validReference};
 ghost use Rattle.board.specs.Soundness.{zeros, validDigits};
 ghost use Rattle.events.specs.Records.{recordLength};
-ghost use Rattle.events.specs.EventRecords.{field, directionOf, ofKind, request};
+ghost use Rattle.events.specs.EventRecords.{field, validComponent, directionOf, ofKind, request};
 ghost use Rattle.board.specs.Soundness.{isDigit};
 ghost use Rattle.events.specs.Code.RecordValues.{RecordRead};
 
-// What a record asks for. The digits of an Open and the component of a Facility stay in the record:
-// 15 octets from place 10, and as many as said from place 4.
+// What a record asks for. The digits of an Open and components stay in the record: 15 octets from place 10, of a
+// Facility as many as said from place 4, and of a Leg facility as many as said of the 64 octets from place 6.
 pub enum RequestHead {
     Malformed(Refusal),
     Open {
@@ -31,6 +31,7 @@ pub enum RequestHead {
     Release(u32),
     Facility(CallReference, usize),
     Answer(u32),
+    LegFacility(u32, u8),
 }
 
 // How many octets a record has: its kind, and the body that its kind has; of a kind that is not listed the kind alone.
@@ -54,6 +55,9 @@ pub fn record_length(kind: u8) -> usize
     }
     if kind == 6 {
         return 5;
+    }
+    if kind == 7 {
+        return 70;
     }
     1
 }
@@ -125,6 +129,21 @@ fn valid_digits(count: u8, digits: &[u8]) -> bool
         return false;
     }
     all_zeros(&digits[n..])
+}
+
+// The count of a component, then the component in `most` octets, zeros behind it.
+fn valid_component(s: &[u8], most: usize) -> bool
+    requires { ⌜ length (now s) ≡ most + 1 ⌝ }
+    ensures { λ r. ⌜ r ≡ validComponent most (getD (now (s .entry)) 0 0) (drop 1 (now (s .entry))) ⌝ }
+{
+    let count = s[0] as usize;
+    if count < 1 {
+        return false;
+    }
+    if most < count {
+        return false;
+    }
+    all_zeros(&s[count + 1..])
 }
 
 // A direction's octet; above 1 it is none.
@@ -221,20 +240,13 @@ fn read_facility(event: &[u8]) -> RequestHead
     ensures { λ r. ⌜ RecordRead (now (event .entry)) r (ofKind 5 (drop 1 (now (event .entry)))) ⌝ }
 {
     let reference = u16_at(event, 1);
-    let count = event[3] as usize;
     if !valid_reference(reference) {
         return RequestHead::Malformed(Refusal::FieldOutOfRange);
     }
-    if count < 1 {
+    if !valid_component(&event[3..], 32) {
         return RequestHead::Malformed(Refusal::FieldOutOfRange);
     }
-    if 32 < count {
-        return RequestHead::Malformed(Refusal::FieldOutOfRange);
-    }
-    if !all_zeros(&event[count + 4..]) {
-        return RequestHead::Malformed(Refusal::FieldOutOfRange);
-    }
-    RequestHead::Facility(CallReference(reference), count)
+    RequestHead::Facility(CallReference(reference), event[3] as usize)
 }
 
 fn read_answer(event: &[u8]) -> RequestHead
@@ -242,6 +254,16 @@ fn read_answer(event: &[u8]) -> RequestHead
     ensures { λ r. ⌜ RecordRead (now (event .entry)) r (ofKind 6 (drop 1 (now (event .entry)))) ⌝ }
 {
     RequestHead::Answer(u32_at(event, 1))
+}
+
+fn read_leg_facility(event: &[u8]) -> RequestHead
+    requires { ⌜ length (now event) ≡ recordLength 7 ⌝ }
+    ensures { λ r. ⌜ RecordRead (now (event .entry)) r (ofKind 7 (drop 1 (now (event .entry)))) ⌝ }
+{
+    if !valid_component(&event[5..], 64) {
+        return RequestHead::Malformed(Refusal::FieldOutOfRange);
+    }
+    RequestHead::LegFacility(u32_at(event, 1), event[5])
 }
 
 // Reads a record of any length and content. The kind is judged before the length.
@@ -274,5 +296,8 @@ pub fn read_request(event: &[u8]) -> RequestHead
     if kind == 5 {
         return read_facility(event);
     }
-    read_answer(event)
+    if kind == 6 {
+        return read_answer(event);
+    }
+    read_leg_facility(event)
 }

@@ -194,7 +194,7 @@ module _ {A : Type 0} where
   consIf-le true x l n h = suc-le-suc h
   consIf-le false x l n h = le-step h
 
-  pub head-of : List A → Option A
+  unfoldable pub head-of : List A → Option A
   head-of [] = none
   head-of (x ∷ l) = some x
 

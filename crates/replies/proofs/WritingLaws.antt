@@ -7,7 +7,8 @@ use lib.ListN.{length, replicate, length-append}
 use lib.Seq.{take-append-seam}
 use Rattle.component.specs.declared.Answer.{Answer}
 use Rattle.octets.proofs.Appending.{join, zero-filled}
-use Rattle.rules.specs.Replies.{ReplyRecord, Reply, Tell, Drop, Gone, recordOctets, octets}
+use Rattle.rules.specs.Replies.{ReplyRecord, Reply, Tell, Drop, Gone, PassOn, recordOctets, octets}
+use Rattle.rules.proofs.Lengths.{pass-length}
 use Rattle.replies.specs.declared.Out.{Out}
 use Rattle.replies.specs.Code.Writing.{rendered, written, blank, AppendedTo, Adds}
 use Rattle.replies.proofs.Room.{reply-room, tell-room, drop-room, gone-room}
@@ -38,6 +39,9 @@ dropped {r = r} g = one (Drop r) 3 (drop-room r) g
 
 pub gone : {a b : Out} {l : ℕ} → AppendedTo a b (recordOctets (Gone l)) → Adds a b (Gone l ∷ []) 5
 gone {l = l} g = one (Gone l) 5 (gone-room l) g
+
+pub passed : {a b : Out} {l n : ℕ} {c : List ℕ} → length c ≡ 64 → AppendedTo a b (recordOctets (PassOn l n c)) → Adds a b (PassOn l n c ∷ []) 70
+passed {l = l} {n = n} {c = c} h g = one (PassOn l n c) 70 (pass-length l n c h) g
 
 pub also : {a b c : Out} {rs ss : List ReplyRecord} {m n : ℕ} → Adds a b rs m → Adds b c ss n → Adds a c (rs ++ ss) (m + n)
 also {rs = rs} {ss = ss} p q = record { appended = rw (octets-append rs ss) (join (p .appended) (q .appended)); room = omega (arith, p .room, q .room) }

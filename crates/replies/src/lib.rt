@@ -10,7 +10,7 @@ ghost use mathlib.Core.List.{[], _∷_};
 ghost use Prim.Native.Nat.{_+_, _≤_};
 ghost use lib.ListN.{length};
 ghost use Rattle.octets.specs.Numbers.{four};
-ghost use Rattle.rules.specs.Replies.{Reply, Tell, Drop, Gone, markOnly, numberAsTold, told};
+ghost use Rattle.rules.specs.Replies.{Reply, Tell, Drop, Gone, PassOn, markOnly, numberAsTold, told};
 ghost use Rattle.rules.specs.Replies.{facility, transferredActive};
 ghost use Rattle.replies.specs.Code.Writing.{AppendedTo, Adds, rendered, transferRecords};
 
@@ -160,6 +160,16 @@ impl Out {
         self.push_part(&head).push_part(&digits)
     }
 
+    // The component comes with its zeros.
+    fn push_pass_on(self, leg: u32, count: u8, component: [u8; 64]) -> Out
+        requires { ⌜ self .len + 70 ≤ 128 ⌝ }
+        ensures { λ r. ⌜ Adds self r (PassOn leg count component ∷ []) 70 ⌝ }
+    {
+        let l = four_octets(leg);
+        let head = [0x85, l[0], l[1], l[2], l[3], count];
+        self.push_part(&head).push_part(&component)
+    }
+
     // What a transfer tells the party at a leg: `other` is whether the other party alerts, the number is the other's.
     fn push_told(self, leg: u32, alerts: bool, other: bool, number: TellNumber) -> Out
         requires { ⌜ self .len + 25 ≤ 128 ⌝ }
@@ -211,6 +221,13 @@ pub fn answer_told(partner: u32, number: TellNumber) -> Out
     ensures { λ r. ⌜ r ≡ rendered (Tell partner facility transferredActive number 0 ∷ []) ⌝ }
 {
     nothing().push_tell(partner, FACILITY, TRANSFERRED_ACTIVE, number, 0)
+}
+
+// A component of a joined leg, passed on to its partner.
+pub fn pass_on(partner: u32, count: u8, component: [u8; 64]) -> Out
+    ensures { λ r. ⌜ r ≡ rendered (PassOn partner count component ∷ []) ⌝ }
+{
+    nothing().push_pass_on(partner, count, component)
 }
 
 // The five records of a transfer, the Reply on the reference of the event.

@@ -5,7 +5,7 @@ use mathlib.Core.Bool.{_&&_, false, true, Bool, cond}
 use mathlib.Core.List.{List, List·Memᴰ}
 use mathlib.Core.Option.{Option, some, none}
 use lib.Dec.{leb, eqb}
-use lib.ListN.{length}
+use lib.ListN.{length, take}
 use lib.IntN.{ℤ}
 use Rattle.board.specs.declared.PartyNumber.{PartyNumber}
 use Rattle.board.specs.declared.Connection.{Connection}
@@ -24,13 +24,14 @@ use Rattle.component.specs.declared.Operation.{Operation}
 use Rattle.component.specs.declared.Operation.the-variants.{EctExecute, ExplicitEctExecute, EctLinkIdRequest}
 use Rattle.component.specs.declared.Reading.{Reading}
 use Rattle.component.specs.declared.Reading.the-variants.{Ignored, Rejected, Invoked}
-use Rattle.rules.specs.Checks.{decide, Decision, Refuse, Accept, accept, opening, named, mayProgress, mayHold, releaseOf, serviceDecision, decideOpen, decideProgress, decideHold, entryAt, decideRelease, decideFacility, decideAlerting, decideAnswer}
+use Rattle.subaddresses.specs.SubaddressTransfer.{isSubaddressTransfer}
+use Rattle.rules.specs.Checks.{decide, Decision, Refuse, Accept, accept, opening, named, mayProgress, mayHold, releaseOf, serviceDecision, decideOpen, decideProgress, decideHold, entryAt, decideRelease, decideFacility, decideAlerting, decideAnswer, decidePassing, decideLegFacility}
 use Rattle.rules.specs.History.{opensLeg, endsLeg}
-use Rattle.rules.specs.Replies.{Written, nothing, releaseReplies, answerTold}
-use Rattle.rules.proofs.Lengths.{Short, nothing-short, reply-short}
+use Rattle.rules.specs.Replies.{Written, nothing, releaseReplies, answerTold, passedOn}
+use Rattle.rules.proofs.Lengths.{Short, nothing-short, reply-short, passed-short}
 use Rattle.board.specs.declared.Change.the-variants as change
 use Rattle.events.specs.Refusals.{refusalNumber}
-use Rattle.events.specs.EventRecords.{Answer, Request, Open, Progress, Hold, Release, Facility, Malformed, inRange}
+use Rattle.events.specs.EventRecords.{Answer, Request, Open, Progress, Hold, Release, Facility, LegFacility, Malformed, inRange}
 use Rattle.rules.specs.Serving.{Service, Silent, Respond, assign, AssignLinkId, partnerFor, Transfer, execute, executeExplicitly, error, newLinkId, linkIdRequest, perform, serve}
 use Rattle.events.specs.declared.Refusal.{Refusal}
 use Rattle.octets.proofs.Lists.{filter-mem, only-mem, find-mem}
@@ -102,6 +103,7 @@ refusal-not-0 refusal.NoEmptyRow = refl
 refusal-not-0 refusal.NoSuchCall = refl
 refusal-not-0 refusal.NoSuchLeg = refl
 refusal-not-0 refusal.NotPermitted = refl
+refusal-not-0 refusal.NoSuchInvoke = refl
 
 module _ (opt : Options) (z : ℤ) (w : Bool) (es : List Entry) where
   pub data Decided : Request → Decision → Type 0 where
@@ -168,6 +170,18 @@ module _ (opt : Options) (z : ℤ) (w : Bool) (es : List Entry) where
   answer-is l none = refuses _
   answer-is l (some e) = alerting-is l (e .connection)
 
+  passing-is : (l n : ℕ) (c : List ℕ) (t : Connection) → Decided (LegFacility l n c) (decidePassing n c t)
+  passing-is l n c (WithUser call) = refuses _
+  passing-is l n c (WithPartner p a) = go (isSubaddressTransfer (take n c))
+    where
+      go : (b : Bool) → Decided (LegFacility l n c) (cond b (Accept none (passedOn p n c)) (Refuse refusal.NoSuchInvoke))
+      go true = changes-nothing (λ m. refl) (λ m. refl) (passed-short p l n c)
+      go false = refuses _
+
+  leg-facility-is : (l n : ℕ) (c : List ℕ) (o : Option Entry) → Decided (LegFacility l n c) (decideLegFacility n c o)
+  leg-facility-is l n c none = refuses _
+  leg-facility-is l n c (some e) = passing-is l n c (e .connection)
+
   pub decided : (q : Request) → Decided q (decide opt z w es q)
   unfolding decide
   decided (Malformed c) = refuses c
@@ -177,3 +191,4 @@ module _ (opt : Options) (z : ℤ) (w : Bool) (es : List Entry) where
   decided (Release l) = release-is l (entryAt l es) refl
   decided (Facility r c) = facility-is r c (named r es) refl
   decided (Answer l) = answer-is l (entryAt l es)
+  decided (LegFacility l n c) = leg-facility-is l n c (entryAt l es)

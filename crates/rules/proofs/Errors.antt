@@ -22,7 +22,7 @@ use Rattle.component.specs.Answers.{answerOctets, filled}
 use Rattle.rules.specs.Checks.{Decision, Refuse, Accept, returnedBy}
 use Rattle.events.specs.Refusals.{refusalNumber}
 use Rattle.rules.specs.History.{Event, stepped}
-use Rattle.rules.specs.Replies.{told, TellNumber, errorRecord, Drop, numberAt, octets, errorTag, Reply, ReplyRecord, errorOctets, Tell, Gone, transferReplies, releaseReplies}
+use Rattle.rules.specs.Replies.{told, TellNumber, errorRecord, Drop, numberAt, octets, errorTag, Reply, ReplyRecord, errorOctets, Tell, Gone, PassOn, transferReplies, releaseReplies}
 use Rattle.rules.proofs.Decided.{Decided, refuses, changes-nothing, opens-leg, sets-state, sets-auxiliary, releases, assigns-link-id, transfers, ends-alerting, decided}
 use Rattle.rules.specs.Step.{boardAfter, rowsAfter, candidateAfter, done, replies, refused, step, stepTested, Outcome, decision}
 use Rattle.octets.proofs.Lists.{true-not-false, neither, or-left}
@@ -103,3 +103,4 @@ octets-error (Reply r a ∷ rs) h = or-left (errorTag (getD (answerOctets a) 0 0
 octets-error (Tell l m d n s ∷ rs) h = absurd (true-not-false h refl)
 octets-error (Drop r ∷ rs) h = absurd (true-not-false h refl)
 octets-error (Gone l ∷ rs) h = absurd (true-not-false h refl)
+octets-error (PassOn l n c ∷ rs) h = absurd (true-not-false h refl)

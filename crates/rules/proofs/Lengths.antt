@@ -10,9 +10,10 @@ use Rattle.octets.proofs.Lists.{eqb-eq, left}
 use Rattle.octets.specs.Lists.{all}
 use Rattle.board.specs.Soundness.{validDigits}
 use Rattle.component.proofs.Length.{answer-length}
+use Rattle.events.specs.EventRecords.{LegFacility, inRange, validComponent}
 use Rattle.component.specs.Answers.{answerOctets}
 use Rattle.component.specs.declared.Answer.{Answer}
-use Rattle.rules.specs.Replies.{recordOctets, Reply, Tell, TellNumber, told, ReplyRecord, octets, drops, Written, nothing, replied}
+use Rattle.rules.specs.Replies.{recordOctets, Reply, Tell, PassOn, TellNumber, told, ReplyRecord, octets, drops, Written, nothing, replied, passedOn}
 
 pub reply-length : (r : ℕ) (a : Answer) → length (recordOctets (Reply r a)) ≡ 36
 reply-length r a =
@@ -64,6 +65,15 @@ nothing-short = record { fits = λ numbers k. zero-le }
 
 pub reply-short : (r : ℕ) (a : Answer) → Short (replied r a)
 reply-short r a = record { fits = λ numbers k. omega (arith, one-length (Reply r a), reply-length r a) }
+
+pub pass-length : (l n : ℕ) (c : List ℕ) → length c ≡ 64 → length (octets (PassOn l n c ∷ [])) ≡ 70
+pass-length l n c h = omega (arith, one-length (PassOn l n c), h)
+
+-- a component passed on, in the 64 octets that a record in range has
+pub passed-short : (p l n : ℕ) (c : List ℕ) → inRange (LegFacility l n c) ≡ true → Short (passedOn p n c)
+passed-short p l n c k = record {
+  fits = λ numbers h. omega (arith, pass-length p n c (eqb-eq (length c) 64 (left (eqb (length c) 64) (validComponent 64 n c) k)));
+}
 
 -- one Tell, with a number of 15 digits
 pub tell-short : (l m d : ℕ) (number : (ℕ → TellNumber) → TellNumber) (s : ℕ) → ((numbers : ℕ → TellNumber) → ((l : ℕ) → length (numbers l .digits) ≡ 15) → length (number numbers .digits) ≡ 15) →

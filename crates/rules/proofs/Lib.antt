@@ -13,4 +13,5 @@ pub mod SoundKept
 pub mod WholeHistory
 pub mod Room
 pub mod Situations
+pub mod PassedOn
 pub mod Examples

@@ -1,14 +1,16 @@
--- What is decided of a request: refused, or what is to be done (document 01, "Event records", checks 6 to 11).
+-- What is decided of a request: refused, or what is to be done (document 01, "Event records", checks 6 to 11; document 02, slip 5, check 12).
 -- The entries are the board's rows taken, or the book's entries.
 use Prim.Native.Nat.{ℕ}
 use mathlib.Core.Bool.{Bool, true, false, _&&_, cond}
 use mathlib.Core.List.{List}
 use mathlib.Core.Option.{Option, none, some}
 use lib.IntN.{ℤ}
+use lib.ListN.{take}
 use Rattle.octets.specs.declared.LinkId.{LinkId}
 use Rattle.octets.specs.Lists.{any, find}
 use Rattle.component.specs.declared.Answer.the-variants as answer
 use Rattle.component.specs.Reading.{reading}
+use Rattle.subaddresses.specs.SubaddressTransfer.{isSubaddressTransfer}
 use Rattle.board.specs.declared.Direction.{Direction}
 use Rattle.board.specs.declared.Direction.the-variants.{Outgoing, Incoming}
 use Rattle.board.specs.declared.CallState.{CallState}
@@ -30,9 +32,9 @@ use Rattle.board.specs.Entries.{calls, hasLeg, hasReference, hasPartyReference}
 use Rattle.events.specs.declared.Refusal.{Refusal}
 use Rattle.events.specs.declared.Refusal.the-variants as refusal
 use Rattle.events.specs.Refusals.{refusalNumber}
-use Rattle.events.specs.EventRecords.{Request, Malformed, Open, Progress, Hold, Release, Facility, Answer}
+use Rattle.events.specs.EventRecords.{Request, Malformed, Open, Progress, Hold, Release, Facility, Answer, LegFacility}
 use Rattle.rules.specs.Serving.{Service, Silent, Respond, AssignLinkId, Transfer, serve}
-use Rattle.rules.specs.Replies.{Written, nothing, replied, transferReplies, releaseReplies, answerTold}
+use Rattle.rules.specs.Replies.{Written, nothing, replied, transferReplies, releaseReplies, answerTold, passedOn}
 
 -- what an event changes, on the board and in the book: a far party is entered, with its number,
 -- or parties that are there change
@@ -180,6 +182,17 @@ abbrev pub decideFacility : Options → ℤ → List Entry → List ℕ → Opti
 decideFacility o z es c none = Refuse refusal.NoSuchCall
 decideFacility o z es c (some p) = serviceDecision o p (serve o z (calls es) p (reading c))
 
+-- "A SubaddressTransfer invoke .. on a joined leg is passed on unchanged to the partner, alerting or not"; "11 for a leg still with the
+-- served user, then a new 12 for a component that isn't such an invoke" (document 02, slip 5)
+abbrev pub decidePassing : ℕ → List ℕ → Connection → Decision
+decidePassing n c (WithUser call) = Refuse refusal.NotPermitted
+decidePassing n c (WithPartner p a) = cond (isSubaddressTransfer (take n c)) (Accept none (passedOn p n c)) (Refuse refusal.NoSuchInvoke)
+
+-- "Checks: 10 for no such leg, then .."
+abbrev pub decideLegFacility : ℕ → List ℕ → Option Entry → Decision
+decideLegFacility n c none = Refuse refusal.NoSuchLeg
+decideLegFacility n c (some e) = decidePassing n c (e .connection)
+
 -- "6: Open: leg on the board"; "7: Open: reference in use"; "8: Open: no empty row"
 abbrev pub decideOpen : Bool → Bool → Bool → Decision → Decision
 decideOpen legThere referenceThere full d =
@@ -198,3 +211,4 @@ decide o z full es (Hold r a) = decideHold r a (named r es)
 decide o z full es (Release l) = decideRelease (entryAt l es)
 decide o z full es (Facility r c) = decideFacility o z es c (named r es)
 decide o z full es (Answer l) = decideAnswer o l (entryAt l es)
+decide o z full es (LegFacility l n c) = decideLegFacility n c (entryAt l es)

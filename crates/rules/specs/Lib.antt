@@ -8,3 +8,4 @@ pub mod Book
 pub mod History
 pub mod Situations
 pub mod Examples
+pub mod PassedOn

@@ -28,6 +28,8 @@ pub data ReplyRecord : Type 0 where
   Tell : (leg message description : ℕ) → TellNumber → (request : ℕ) → ReplyRecord
   Drop : (reference : ℕ) → ReplyRecord
   Gone : (leg : ℕ) → ReplyRecord
+  -- count and octets are the event's
+  PassOn : (leg count : ℕ) (octets : List ℕ) → ReplyRecord
 
 -- "0x81 Reply (35): the event's reference 2, count 1, component in 32 octets, zero filled. 0x82 Tell (24): leg 4, message 1, description 1,
 -- number mark 1, subaddress request 1, digit count 1, digits 15. 0x83 Drop (2): reference. 0x84 Gone (4): leg."
@@ -36,6 +38,8 @@ recordOctets (Reply r a) = 0x81 ∷ (two r ++ (length (answerOctets a) ∷ fille
 recordOctets (Tell l m d n s) = 0x82 ∷ (four l ++ (m ∷ d ∷ n .mark ∷ s ∷ n .count ∷ n .digits))
 recordOctets (Drop r) = 0x83 ∷ two r
 recordOctets (Gone l) = 0x84 ∷ four l
+-- "reply record 0x85 with the same layout", which is "leg 4, count 1 .., component, zeros" (document 02, slip 5)
+recordOctets (PassOn l n c) = 0x85 ∷ (four l ++ (n ∷ c))
 
 -- the octets of all records, in their order
 unfoldable pub octets : List ReplyRecord → List ℕ
@@ -124,6 +128,10 @@ releaseReplies (WithPartner p a) numbers = Gone p ∷ []
 abbrev pub answerTold : Options → ℕ → ℕ → Written
 answerTold o l partner numbers = Tell partner facility transferredActive (numbers l) 0 ∷ []
 
+-- "passed on unchanged to the partner .. as reply record 0x85 with .. the partner's leg" (document 02, slip 5)
+abbrev pub passedOn : ℕ → ℕ → List ℕ → Written
+passedOn partner n c numbers = PassOn partner n c ∷ []
+
 -- ---- "An error answer is a Reply whose component begins A3 or A4."
 
 abbrev pub errorTag : ℕ → Bool
@@ -134,6 +142,7 @@ errorRecord (Reply r a) = errorTag (getD (answerOctets a) 0 0)
 errorRecord (Tell l m d n s) = false
 errorRecord (Drop r) = false
 errorRecord (Gone l) = false
+errorRecord (PassOn l n c) = false
 
 -- the same of the octets written: a Reply is written before any other record, its component from the fifth octet on
 abbrev pub errorOctets : List ℕ → Bool

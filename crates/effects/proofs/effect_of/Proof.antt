@@ -1,8 +1,9 @@
 use native.Mathlib.Omega.{arith}
 use mathlib.Core.Path.{_∙_}
+use lib.ListN.{drop}
 use Rattle.board.specs.Entries.{taken}
-use Rattle.events.proofs.RecordLaws.{said, open-length, component-within, component-small, digits-are}
-use Rattle.rules.specs.Checks.{decide, named, entryAt, decideProgress, decideHold, decideRelease, decideAnswer}
+use Rattle.events.proofs.RecordLaws.{said, open-length, component-within, component-small, leg-facility-length, leg-component-small, last-octets}
+use Rattle.rules.specs.Checks.{decide, named, entryAt, decideProgress, decideHold, decideRelease, decideAnswer, decideLegFacility}
 use Rattle.effects.proofs.EffectLaws.{by-request, by-party, by-entry, component-is, component-part}
 use borrow.Author.Needs.{needs}
 use Rattle.effects.proofs.effect_of.Statement.{statement}
@@ -80,6 +81,18 @@ entry-at-requires-2 c κs = search needs
 answer-requires : tie.Need-answer-requires
 answer-requires c κs = search needs
 
+enum-known-leg-3 : tie.Need-enum-known-leg-3
+enum-known-leg-3 c = search needs
+
+entry-at-requires-3 : tie.Need-entry-at-requires-3
+entry-at-requires-3 c κs = search needs
+
+component-of-requires : tie.Need-component-of-requires
+component-of-requires c κs = let h = leg-facility-length (c .before .before .before .before .read-request .ensures) (c .before .before .leg3 .given .1) in omega arith
+
+leg-facility-requires : tie.Need-leg-facility-requires
+leg-facility-requires c κs = leg-component-small (c .before .before .before .before .before .read-request .ensures) (c .before .before .before .leg3 .given .1)
+
 returns : tie.Need-returns
 unfolding decide
 returns c =
@@ -92,7 +105,7 @@ unfolding decide
 returns-2 c =
     let s = c .before .before .before .before .before .before .before .args in
     by-request (s .board) (s .event .now) _ (said (c .before .before .before .before .before .read-request .ensures) (c .before .before .before .reference .given .1))
-    (rw (c .before .digits-of .ensures ∙ digits-are (s .event .now) (open-length (c .before .before .before .before .before .read-request .ensures) (c .before .before .before .reference .given .1))) at (c .«open» .ensures))
+    (rw (c .before .digits-of .ensures ∙ last-octets 15 10 (s .event .now) (open-length (c .before .before .before .before .before .read-request .ensures) (c .before .before .before .reference .given .1))) at (c .«open» .ensures))
 
 returns-3 : tie.Need-returns-3
 unfolding decide
@@ -132,6 +145,16 @@ returns-7 c =
     by-request (s .board) (s .event .now) _ (said (c .before .before .before .before .before .read-request .ensures) (c .before .before .before .leg2 .given .1))
     (by-entry (decideAnswer (s .board .options) (c .before .before .before .leg2 .given .0 .0)) (entryAt (c .before .before .before .leg2 .given .0 .0) (taken (s .board .rows))) (c .before .entry-at2 .ensures) (c .answer .ensures))
 
+returns-8 : tie.Need-returns-8
+unfolding decide
+returns-8 c =
+    let s = c .before .before .before .before .before .before .before .before .args in
+    let q = c .before .before .before .before .before .before .read-request .ensures in
+    let x = c .before .before .before .before .leg3 .given in
+    by-request (s .board) (s .event .now) _ (said q (x .1))
+    (by-entry (decideLegFacility (x .0 .1 .0) (drop 6 (s .event .now))) (entryAt (x .0 .0) (taken (s .board .rows))) (c .before .before .entry-at3 .ensures)
+    (rw (c .before .component-of .ensures ∙ last-octets 64 6 (s .event .now) (leg-facility-length q (x .1))) at (c .leg-facility .ensures (s .board))))
+
 pub effect-of-spec : {M : Type 1} → statement M
 effect-of-spec =
     tie.close
@@ -160,10 +183,15 @@ effect-of-spec =
     enum-known-leg-2
     entry-at-requires-2
     answer-requires
+    enum-known-leg-3
+    entry-at-requires-3
+    component-of-requires
+    leg-facility-requires
     returns
     returns-2
     returns-3
     returns-4
     returns-5
     returns-6
-    returns-7)
+    returns-7
+    returns-8)

@@ -34,7 +34,7 @@ loop-less : tie.Need-loop-less Inv-loop μ-loop
 loop-less c = search needs
 
 loop-again : tie.Need-loop-again Inv-loop μ-loop
-loop-again c = (search needs, search needs, copied (c .before .before .before .args .event .now) (c .before .before .loop .digits) (c .before .before .loop .i) (c .before .before .before .pre) (c .before .before .loop .inv .1) (omega arith) (c .before .before .loop .inv .2))
+loop-again c = (search needs, search needs, copied 15 10 (c .before .before .before .args .event .now) (c .before .before .loop .digits) (c .before .before .loop .i) (c .before .before .before .pre) (c .before .before .loop .inv .1) (omega arith) (c .before .before .loop .inv .2))
 
 returns : tie.Need-returns Inv-loop μ-loop
 returns c =

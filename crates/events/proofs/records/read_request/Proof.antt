@@ -5,7 +5,7 @@ use mathlib.Core.Path.{_≡_, ap, _∙_}
 use lib.ListN.{length, getD}
 use borrow.Author.Needs.{needs}
 use Rattle.events.specs.Records.{recordLength}
-use Rattle.events.proofs.RecordLaws.{no-kind, unknown-kind, wrong-length, of-kind, answer-kind}
+use Rattle.events.proofs.RecordLaws.{no-kind, unknown-kind, wrong-length, of-kind, leg-facility-kind}
 use Rattle.events.proofs.records.read_request.Statement.{statement}
 use Rattle.events.proofs.records.read_request.Tie as tie
 
@@ -60,20 +60,26 @@ returns-8 : tie.Need-returns-8
 returns-8 c = of-kind (c .before .before .before .before .before .before .before .before .before .before .before .before .args .event .now) 5 (c .before .before .before .before .before .before .before .before .before .before .if1 .left) (c .before .if8 .taken) (c .read-facility .ensures)
 
 read-answer-requires : tie.Need-read-answer-requires
-read-answer-requires c κs =
-    let s = c .before .before .before .before .before .before in
-    as-long (s .before) 6 (c .before .before .before .before .before .if3 .left)
-    (answer-kind (getD (s .before .before .before .before .before .args .event .now) 0 0) (s .before .record-length .ensures) (s .if2 .left)
-    (c .before .before .before .before .if4 .left) (c .before .before .before .if5 .left) (c .before .before .if6 .left) (c .before .if7 .left) (c .if8 .left))
+read-answer-requires c κs = as-long (c .before .before .before .before .before .before .before .before) 6 (c .before .before .before .before .before .before .if3 .left) (c .if9 .taken)
 
 returns-9 : tie.Need-returns-9
-returns-9 c =
+returns-9 c = of-kind (c .before .before .before .before .before .before .before .before .before .before .before .before .before .args .event .now) 6 (c .before .before .before .before .before .before .before .before .before .before .before .if1 .left) (c .before .if9 .taken) (c .read-answer .ensures)
+
+read-leg-facility-requires : tie.Need-read-leg-facility-requires
+read-leg-facility-requires c κs =
     let s = c .before .before .before .before .before .before .before in
+    as-long (s .before) 7 (c .before .before .before .before .before .before .if3 .left)
+    (leg-facility-kind (getD (s .before .before .before .before .before .args .event .now) 0 0) (s .before .record-length .ensures) (s .if2 .left)
+    (c .before .before .before .before .before .if4 .left) (c .before .before .before .before .if5 .left) (c .before .before .before .if6 .left) (c .before .before .if7 .left) (c .before .if8 .left) (c .if9 .left))
+
+returns-10 : tie.Need-returns-10
+returns-10 c =
+    let s = c .before .before .before .before .before .before .before .before in
     let os = s .before .before .before .before .before .args .event .now in
-    of-kind os 6 (s .before .before .before .if1 .left)
-    (answer-kind (getD os 0 0) (s .before .record-length .ensures) (s .if2 .left) (c .before .before .before .before .before .if4 .left)
-    (c .before .before .before .before .if5 .left) (c .before .before .before .if6 .left) (c .before .before .if7 .left) (c .before .if8 .left))
-    (c .read-answer .ensures)
+    of-kind os 7 (s .before .before .before .if1 .left)
+    (leg-facility-kind (getD os 0 0) (s .before .record-length .ensures) (s .if2 .left) (c .before .before .before .before .before .before .if4 .left)
+    (c .before .before .before .before .before .if5 .left) (c .before .before .before .before .if6 .left) (c .before .before .before .if7 .left) (c .before .before .if8 .left) (c .before .if9 .left))
+    (c .read-leg-facility .ensures)
 
 pub read-request-spec : {M : Type 1} → statement M
 read-request-spec =
@@ -95,4 +101,6 @@ read-request-spec =
     read-facility-requires
     returns-8
     read-answer-requires
-    returns-9)
+    returns-9
+    read-leg-facility-requires
+    returns-10)
