@@ -2,19 +2,20 @@
 
 use crate::board::{Aux, CallState, LinkId, Reference, INCOMING, OUTGOING};
 use crate::component::Operation;
+use crate::legs::leg_facility;
 use crate::odd;
 use crate::records;
 use crate::script::Script;
 
 /// How often each step is taken, as weights.
 pub struct Style {
-    pub weights: [u32; 13],
+    pub weights: [u32; 14],
     pub opens_first: usize,
     pub length: (usize, usize),
 }
 
 /// The steps, in the order of the weights.
-const STEPS: [fn(&mut Script); 13] = [
+const STEPS: [fn(&mut Script); 14] = [
     open,
     progress,
     hold,
@@ -28,6 +29,7 @@ const STEPS: [fn(&mut Script); 13] = [
     bad_field,
     stray,
     clutter,
+    leg_facility,
 ];
 
 pub fn step(script: &mut Script, style: &Style) {

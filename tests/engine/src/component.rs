@@ -5,6 +5,7 @@ use crate::board::LinkId;
 /// What the object identifiers of all operations and of the error begin with.
 pub const OBJECT: [u8; 5] = [0x04, 0x00, 0x82, 0x71, 0x01];
 pub const EXPLICIT: u8 = 0x01;
+pub const SUBADDRESS: u8 = 0x03;
 pub const LINK_REQUEST: u8 = 0x04;
 pub const MAX_DEPTH: u8 = 4;
 
@@ -63,7 +64,7 @@ pub fn take(octets: &[u8]) -> Option<(Element<'_>, &[u8])> {
 }
 
 /// Whether the octets are whole elements, those inside constructed ones included.
-fn whole(mut octets: &[u8], depth: u8) -> bool {
+pub fn whole(mut octets: &[u8], depth: u8) -> bool {
     while !octets.is_empty() {
         if depth > MAX_DEPTH {
             return false;

@@ -1,16 +1,18 @@
 //! Damage to whole logs.
 
+use crate::event::LEG_FACILITY;
 use crate::rng::Rng;
 
 /// Damages a log in one way; `starts` says where its records begin.
 pub fn damage(rng: &mut Rng, log: &mut Vec<u8>, starts: &[usize]) {
-    match rng.below(7) {
+    match rng.below(8) {
         0 => flip_bits(rng, log),
         1 => cut_tail(rng, log, starts),
         2 => wrong_kind(rng, log, starts),
         3 => shift(rng, log),
         4 => listed_kind(rng, log, starts),
         5 => bad_options(rng, log),
+        6 => end_at_leg_facility(rng, log, starts),
         _ => noise(rng, log),
     }
 }
@@ -29,9 +31,23 @@ fn cut_tail(rng: &mut Rng, log: &mut Vec<u8>, starts: &[usize]) {
     log.truncate(length);
 }
 
+/// Ends the log at a Leg facility: after its kind, one octet short of its end, or one beyond it.
+fn end_at_leg_facility(rng: &mut Rng, log: &mut Vec<u8>, starts: &[usize]) {
+    let legs: Vec<usize> = starts.iter().copied().filter(|&start| log[start] == LEG_FACILITY).collect();
+    if legs.is_empty() {
+        return cut_tail(rng, log, starts);
+    }
+    let length = rng.pick(&[1, 69, 69, 71, 71]);
+    log.truncate(rng.pick(&legs) + length.min(70));
+    if length == 71 {
+        let kind = rng.below(8) as u8;
+        log.push(kind);
+    }
+}
+
 /// An unlisted kind at a record, or as the last octet of the log.
 fn wrong_kind(rng: &mut Rng, log: &mut Vec<u8>, starts: &[usize]) {
-    let kind = rng.pick(&[0, 7, 8, 0x81, 0xFF]);
+    let kind = rng.pick(&[0, 10, 11, 0x81, 0x85, 0xFF]);
     if starts.is_empty() || rng.percent(20) {
         log.push(kind);
     } else {
@@ -42,7 +58,7 @@ fn wrong_kind(rng: &mut Rng, log: &mut Vec<u8>, starts: &[usize]) {
 /// Another listed kind: from there on the records are read at the wrong places.
 fn listed_kind(rng: &mut Rng, log: &mut [u8], starts: &[usize]) {
     if !starts.is_empty() {
-        log[rng.pick(starts)] = rng.within(1, 6) as u8;
+        log[rng.pick(starts)] = rng.within(1, 7) as u8;
     }
 }
 

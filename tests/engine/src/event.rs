@@ -5,6 +5,7 @@ use crate::index::Index;
 use crate::lookup::{Lookup, Walk};
 use crate::reply::{Message, Replies, ACTIVE, BUFFER};
 use crate::serve::serve;
+use crate::subaddress::is_transfer;
 
 pub const OPEN: u8 = 1;
 pub const PROGRESS: u8 = 2;
@@ -12,6 +13,7 @@ pub const HOLD: u8 = 3;
 pub const RELEASE: u8 = 4;
 pub const FACILITY: u8 = 5;
 pub const ANSWER: u8 = 6;
+pub const LEG_FACILITY: u8 = 7;
 
 /// What an event returns: 0 and the octets written, or a refusal and 0.
 #[derive(Clone, Copy, PartialEq, Eq, Debug)]
@@ -28,6 +30,7 @@ pub enum Event<'a> {
     Release { leg: u32 },
     Facility { reference: Reference, component: &'a [u8] },
     Answer { leg: u32 },
+    LegFacility { leg: u32, component: &'a [u8] },
 }
 
 /// The octets that follow a listed kind.
@@ -37,6 +40,7 @@ pub fn body_length(kind: u8) -> Option<usize> {
         PROGRESS | HOLD => Some(3),
         RELEASE | ANSWER => Some(4),
         FACILITY => Some(35),
+        LEG_FACILITY => Some(69),
         _ => None,
     }
 }
@@ -56,6 +60,10 @@ impl Event<'_> {
             (FACILITY, &[high, low, count, ref octets @ ..]) => read_facility(high, low, count, octets),
             (RELEASE, &[a, b, c, d]) => Some(Event::Release { leg: u32::from_be_bytes([a, b, c, d]) }),
             (ANSWER, &[a, b, c, d]) => Some(Event::Answer { leg: u32::from_be_bytes([a, b, c, d]) }),
+            (LEG_FACILITY, &[a, b, c, d, count, ref octets @ ..]) => {
+                let leg = u32::from_be_bytes([a, b, c, d]);
+                component(count, octets).map(|component| Event::LegFacility { leg, component })
+            }
             _ => None,
         };
         event.ok_or(5)
@@ -90,10 +98,14 @@ fn read_hold<'a>(high: u8, low: u8, aux: u8) -> Option<Event<'a>> {
 }
 
 fn read_facility(high: u8, low: u8, count: u8, octets: &[u8]) -> Option<Event<'_>> {
-    let reference = reference(high, low)?;
+    Some(Event::Facility { reference: reference(high, low)?, component: component(count, octets)? })
+}
+
+/// The octets that are counted, at least one; those behind them are zeros.
+fn component(count: u8, octets: &[u8]) -> Option<&[u8]> {
     let (component, fill) = octets.split_at_checked(count as usize)?;
     let good = count > 0 && fill.iter().all(|&octet| octet == 0);
-    good.then_some(Event::Facility { reference, component })
+    good.then_some(component)
 }
 
 /// Plays one event into a board. A refusal changes neither board nor buffer.
@@ -150,6 +162,7 @@ fn sound_event(
             serve(board, place, call, index, component, &mut replies);
         }
         Event::Answer { leg } => answer(board, index, leg, &mut replies)?,
+        Event::LegFacility { leg, component } => pass_on(board, index, leg, component, &mut replies)?,
     }
     Ok(replies.written())
 }
@@ -235,5 +248,22 @@ fn answer(board: &mut Board, index: &impl Lookup, leg: u32, replies: &mut Replie
     let Standing::Joined { partner, alerts: true } = row.standing else { return Err(11) };
     row.standing = Standing::Joined { partner, alerts: false };
     replies.tell(partner, Message::Facility, ACTIVE, 0, Some(row));
+    Ok(())
+}
+
+/// The partner gets the component as it is; the board is only looked at.
+fn pass_on(
+    board: &Board,
+    index: &impl Lookup,
+    leg: u32,
+    component: &[u8],
+    replies: &mut Replies,
+) -> Result<(), u8> {
+    let place = index.leg(&board.rows, leg).ok_or(10)?;
+    let Standing::Joined { partner, .. } = board.rows[place].standing else { return Err(11) };
+    if !is_transfer(component) {
+        return Err(12);
+    }
+    replies.pass_on(partner, component);
     Ok(())
 }

@@ -3,20 +3,32 @@
 use std::collections::HashSet;
 
 use crate::board::{Aux, Board, Call, CallState, LinkId, Reference, Row, Standing, INCOMING};
-use crate::event::{event, Answer, Event, HOLD, OPEN, PROGRESS, RELEASE};
+use crate::event::{event, Answer, Event, LEG_FACILITY, RELEASE};
 use crate::notice_component;
 use crate::notice_invoke::rewritten;
+use crate::notice_leg;
 use crate::notice_pair::looked_up;
+use crate::notice_refused::{bad_field, no_call, not_permitted, open_refused};
 use crate::play::{next_record, start};
 use crate::reply::{mark, BUFFER};
 use crate::rows::board_sound;
+use crate::seen_leg::LegSeen;
 use crate::tally::{Seen, Tally};
 
-/// What went by transfer earlier in the log.
+/// What happened earlier in the log.
 #[derive(Default)]
 pub struct Past {
+    /// What went by transfer.
     pub references: HashSet<Reference>,
     pub links: HashSet<LinkId>,
+    /// Legs that were released, and those that went with their partner.
+    pub released: HashSet<u32>,
+    pub went: HashSet<u32>,
+    /// Joined legs that have answered.
+    pub answered: HashSet<u32>,
+    /// Joined legs that a Leg facility was passed on from and to, and those of one refused with 12.
+    pub passed: HashSet<(u32, u32)>,
+    pub refused: HashSet<u32>,
 }
 
 /// One event with the board before and after it.
@@ -25,6 +37,7 @@ pub struct Moment<'a> {
     pub after: &'a Board,
     pub record: &'a [u8],
     pub returned: u8,
+    pub written: &'a [u8],
 }
 
 /// What the engine did that no engine may do, and at which event, counted from 1.
@@ -51,12 +64,15 @@ pub fn watch(log: &[u8], tally: &mut Tally) -> Result<(), Fault> {
         let before = board.clone();
         let mut buffer = [0x5A; BUFFER];
         let answer = event(&mut board, record, &mut buffer);
-        let moment = Moment { before: &before, after: &board, record, returned: answer.returned };
+        let Answer { returned, written } = answer;
+        let moment = Moment { before: &before, after: &board, record, returned, written: &buffer[..written] };
         stands(&before, &board, answer, &buffer)
             .and_then(|()| invokes_stand(&moment, tally))
+            .and_then(|()| notice_leg::stands(&moment))
             .map_err(|what| Fault { event: number, what })?;
         notice(&moment, &mut past, tally);
-        tally.add_if(answer.returned == 4 && rest.len() == 1, Seen::UnknownKindLast);
+        tally.add_if(returned == 4 && rest.len() == 1, Seen::UnknownKindLast);
+        tally.add_if(record[0] == LEG_FACILITY && after.len() == 1, LegSeen::OneBehind);
         rest = after;
     }
     tally.events += number as u64;
@@ -107,104 +123,26 @@ fn notice(moment: &Moment, past: &mut Past, tally: &mut Tally) {
         3 => {
             tally.add(Seen::CutRecord);
             tally.add_if(moment.record.len() == 1, Seen::CutAfterKind);
+            if moment.record[0] == LEG_FACILITY {
+                notice_leg::cut(moment.record, tally);
+            }
         }
         4 => tally.add(Seen::UnknownKind),
+        _ if moment.record[0] == LEG_FACILITY => notice_leg::judged(moment, past, tally),
         5 => bad_field(moment, tally),
         6..=8 => open_refused(moment, tally),
         9 => no_call(moment, past, tally),
         10 => tally.add(if moment.record[0] == RELEASE { Seen::NoLegRelease } else { Seen::NoLegAnswer }),
-        _ => not_permitted(moment, tally),
+        _ => not_permitted(moment, past, tally),
     }
 }
 
-/// The reference that stands first in the body of most records.
-fn reference(record: &[u8]) -> Reference {
-    Reference(u16::from_be_bytes([record[1], record[2]]))
-}
-
-fn row_of_leg(board: &Board, leg: u32) -> Option<&Row> {
+pub fn row_of_leg(board: &Board, leg: u32) -> Option<&Row> {
     board.rows.iter().find(|row| row.leg == leg && row.standing != Standing::Empty)
 }
 
-fn call_of(board: &Board, reference: Reference) -> Option<&Call> {
+pub fn call_of(board: &Board, reference: Reference) -> Option<&Call> {
     board.rows.iter().filter_map(Row::call).find(|call| call.reference == reference)
-}
-
-fn bad_field(moment: &Moment, tally: &mut Tally) {
-    let record = moment.record;
-    let reference = reference(record);
-    tally.add_if(reference.0 == 0, Seen::BadReference0);
-    tally.add_if(reference.0 == 0x8000, Seen::BadReference8000);
-    match record[0] {
-        OPEN => bad_open(moment, tally),
-        PROGRESS => tally.add_if(record[3] != 4 && record[3] != 10, Seen::BadState),
-        HOLD => tally.add_if(record[3] > 3, Seen::BadAux),
-        _ => {
-            tally.add_if(record[3] == 0, Seen::BadCountZero);
-            tally.add_if(record[3] > 32, Seen::BadCountHigh);
-            tally.add_if((1..=32).contains(&record[3]), Seen::BadComponentFill);
-        }
-    }
-    let absent = record[0] != OPEN && reference.valid() && call_of(moment.before, reference).is_none();
-    tally.add_if(absent, Seen::FieldBeforeAbsent);
-}
-
-fn bad_open(moment: &Moment, tally: &mut Tally) {
-    let record = moment.record;
-    tally.add_if(record[7] > 1, Seen::BadDirection);
-    tally.add_if(record[8] > 1, Seen::BadPresentation);
-    tally.add_if(record[9] > 15, Seen::BadDigitCount);
-    if record[9] <= 15 {
-        let (digits, fill) = record[10..].split_at(record[9] as usize);
-        tally.add_if(digits.iter().any(|octet| !octet.is_ascii_digit()), Seen::BadDigit);
-        tally.add_if(fill.iter().any(|&octet| octet != 0), Seen::BadDigitFill);
-    }
-    let leg = u32::from_be_bytes([record[3], record[4], record[5], record[6]]);
-    tally.add_if(row_of_leg(moment.before, leg).is_some(), Seen::FieldBeforeTaken);
-}
-
-fn open_refused(moment: &Moment, tally: &mut Tally) {
-    let Ok(Event::Open { reference, leg, .. }) = Event::read(moment.record) else { return };
-    let full = moment.before.rows.iter().all(|row| row.standing != Standing::Empty);
-    let in_use = call_of(moment.before, reference).is_some();
-    match moment.returned {
-        6 => {
-            let joined = row_of_leg(moment.before, leg).is_some_and(|row| row.call().is_none());
-            tally.add(Seen::LegTaken);
-            tally.add_if(joined, Seen::LegJoinedTaken);
-            tally.add_if(in_use, Seen::LegBeforeReference);
-            tally.add_if(full, Seen::LegBeforeFull);
-        }
-        7 => {
-            tally.add(Seen::ReferenceTaken);
-            tally.add_if(full, Seen::ReferenceBeforeFull);
-        }
-        _ => tally.add(Seen::BoardFull),
-    }
-}
-
-fn no_call(moment: &Moment, past: &Past, tally: &mut Tally) {
-    tally.add(match moment.record[0] {
-        PROGRESS => Seen::NoCallProgress,
-        HOLD => Seen::NoCallHold,
-        _ => Seen::NoCallFacility,
-    });
-    tally.add_if(past.references.contains(&reference(moment.record)), Seen::NoCallTransferred);
-}
-
-fn not_permitted(moment: &Moment, tally: &mut Tally) {
-    match Event::read(moment.record) {
-        Ok(Event::Progress { .. }) => tally.add(Seen::ProgressRefused),
-        Ok(Event::Hold { reference, .. }) => {
-            let step = call_of(moment.before, reference).is_some_and(Call::may_hold);
-            tally.add(if step { Seen::HoldStepRefused } else { Seen::HoldStateRefused });
-        }
-        Ok(Event::Answer { leg }) => {
-            let served = row_of_leg(moment.before, leg).is_some_and(|row| row.call().is_some());
-            tally.add(if served { Seen::AnswerServedRefused } else { Seen::AnswerQuietRefused });
-        }
-        _ => {}
-    }
 }
 
 fn accepted(moment: &Moment, past: &mut Past, tally: &mut Tally) {
@@ -221,15 +159,17 @@ fn accepted(moment: &Moment, past: &mut Past, tally: &mut Tally) {
             tally.add_if(call.aux != Aux::Idle, Seen::ProgressHeld);
         }
         Ok(Event::Hold { reference, aux }) => held(moment, reference, aux, tally),
-        Ok(Event::Release { leg }) => released(moment, leg, tally),
+        Ok(Event::Release { leg }) => released(moment, leg, past, tally),
         Ok(Event::Answer { leg }) => {
             let Some(row) = row_of_leg(moment.before, leg) else { return };
             let marks = [Seen::AnswerUnknown, Seen::AnswerGiven, Seen::AnswerWithheld];
             tally.add(marks[mark(row) as usize]);
+            notice_leg::answered(row, past, tally);
         }
         Ok(Event::Facility { reference, component }) => {
             notice_component::served(moment, reference, component, past, tally);
         }
+        Ok(Event::LegFacility { .. }) => notice_leg::judged(moment, past, tally),
         Err(_) => {}
     }
 }
@@ -271,8 +211,9 @@ fn held(moment: &Moment, reference: Reference, aux: Aux, tally: &mut Tally) {
     tally.add(if delivered { Seen::HoldDelivered } else { Seen::HoldActive });
 }
 
-fn released(moment: &Moment, leg: u32, tally: &mut Tally) {
+fn released(moment: &Moment, leg: u32, past: &mut Past, tally: &mut Tally) {
     let Some(row) = row_of_leg(moment.before, leg) else { return };
+    notice_leg::released(row, past, tally);
     match row.standing {
         Standing::Served(call) => {
             tally.add(Seen::ReleaseServed);

@@ -6,7 +6,9 @@ use crate::notice::{Moment, Past};
 use crate::notice_integer::integers;
 use crate::notice_invoke::form;
 use crate::notice_transfer::{transferred, EXPLICIT, IMPLICIT};
+use crate::seen_leg::LegSeen;
 use crate::serve::{pairs, verdict};
+use crate::subaddress::is_transfer;
 use crate::tally::{Seen, Tally};
 
 pub fn served(moment: &Moment, reference: Reference, component: &[u8], past: &mut Past, tally: &mut Tally) {
@@ -21,7 +23,9 @@ pub fn served(moment: &Moment, reference: Reference, component: &[u8], past: &mu
             _ => Seen::IgnoredA4,
         }),
         Reading::Reject { identifier, sort, problem } => {
-            tally.add_if(moment.before.subscribed == 0, Seen::RejectUnsubscribed);
+            let unsubscribed = moment.before.subscribed == 0;
+            tally.add_if(unsubscribed, Seen::RejectUnsubscribed);
+            tally.add_if(unsubscribed && is_transfer(component), LegSeen::InFacilityUnsubscribed);
             rejected(component, identifier, sort, problem, tally);
         }
         Reading::Invoke { identifier, operation } => {
@@ -42,6 +46,7 @@ fn rejected(component: &[u8], identifier: &[u8], sort: u8, problem: u8, tally: &
         }
         (0x80, _) => tally.add(Seen::General1),
         (_, 1) => {
+            in_a_facility(component, tally);
             let local = component[2 + identifier.len()] == 2;
             tally.add(if local { Seen::Invoke1Local } else { Seen::Invoke1Object });
         }
@@ -49,6 +54,14 @@ fn rejected(component: &[u8], identifier: &[u8], sort: u8, problem: u8, tally: &
             tally.add(Seen::Invoke2);
             tally.add_if(component.len() == 2 + identifier.len() + 8, Seen::Invoke2Absent);
         }
+    }
+}
+
+/// What is passed on between joined parties is not served on a call.
+fn in_a_facility(component: &[u8], tally: &mut Tally) {
+    if is_transfer(component) {
+        let plain = elements(&component[2..])[2].tag == 0x04;
+        tally.add(if plain { LegSeen::InFacilityPlain } else { LegSeen::InFacilitySequence });
     }
 }
 
@@ -63,7 +76,8 @@ fn structure(component: &[u8]) -> Seen {
     }
 }
 
-fn fault(mut octets: &[u8], depth: u8) -> Option<Seen> {
+/// What keeps octets at that depth from being whole elements.
+pub fn fault(mut octets: &[u8], depth: u8) -> Option<Seen> {
     while let [tag, tail @ ..] = octets {
         if depth > MAX_DEPTH {
             return Some(Seen::DepthFive);

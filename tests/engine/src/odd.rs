@@ -11,7 +11,7 @@ pub fn component(script: &mut Script) -> Vec<u8> {
     let link = link.map_or(1, |link| link.0);
     let rng = &mut *script.rng;
     let mut component = match rng.below(9) {
-        0 => return noise(rng),
+        0 => return noise(rng, 32),
         1 => invoke(&[&bad_identifier(rng), &object(LINK_REQUEST)]),
         2 => invoke(&[&identifier, &bad_operation(rng)]),
         3 => invoke(&[&identifier, &odd_operation(rng), &short_integer(link)]),
@@ -36,8 +36,9 @@ fn fit(mut component: Vec<u8>) -> Vec<u8> {
     component
 }
 
-fn noise(rng: &mut Rng) -> Vec<u8> {
-    let length = rng.within(1, 32);
+/// Up to so many octets of any value; often the front is right.
+pub fn noise(rng: &mut Rng, longest: usize) -> Vec<u8> {
+    let length = rng.within(1, longest);
     let mut octets: Vec<u8> = (0..length).map(|_| rng.octet()).collect();
     if rng.percent(70) {
         octets[0] = rng.pick(&[0xA1, 0xA1, 0xA1, 0xA2, 0xA3, 0xA4]);
@@ -48,7 +49,7 @@ fn noise(rng: &mut Rng) -> Vec<u8> {
     octets
 }
 
-fn flip(rng: &mut Rng, octets: &mut [u8]) {
+pub fn flip(rng: &mut Rng, octets: &mut [u8]) {
     for _ in 0..rng.within(1, 3) {
         octets[rng.below(octets.len())] ^= 1 << rng.below(8);
     }
@@ -68,7 +69,7 @@ fn barely_two(rng: &mut Rng) -> Vec<u8> {
     long_integer(rng.pick(&[128, -129]))
 }
 
-fn bad_identifier(rng: &mut Rng) -> Vec<u8> {
+pub fn bad_identifier(rng: &mut Rng) -> Vec<u8> {
     match rng.below(6) {
         0 => Vec::new(),
         1 => vec![2, 0],

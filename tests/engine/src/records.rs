@@ -1,8 +1,8 @@
 //! Building event records and components.
 
 use crate::board::{LinkId, Reference};
-use crate::component::{EXPLICIT, LINK_REQUEST, OBJECT};
-use crate::event::{ANSWER, FACILITY, HOLD, OPEN, PROGRESS, RELEASE};
+use crate::component::{EXPLICIT, LINK_REQUEST, OBJECT, SUBADDRESS};
+use crate::event::{ANSWER, FACILITY, HOLD, LEG_FACILITY, OPEN, PROGRESS, RELEASE};
 
 /// An Open record. `digits` has at most fifteen octets.
 pub fn open(reference: Reference, leg: u32, direction: u8, presentation: u8, digits: &[u8]) -> Vec<u8> {
@@ -43,6 +43,17 @@ pub fn facility(reference: Reference, component: &[u8]) -> Vec<u8> {
     record.push(component.len() as u8);
     record.extend(component);
     record.resize(36, 0);
+    record
+}
+
+/// A Leg facility record. What a component has beyond 64 octets is left off.
+pub fn leg_facility(leg: u32, component: &[u8]) -> Vec<u8> {
+    let component = &component[..component.len().min(64)];
+    let mut record = vec![LEG_FACILITY];
+    record.extend(leg.to_be_bytes());
+    record.push(component.len() as u8);
+    record.extend(component);
+    record.resize(70, 0);
     record
 }
 
@@ -92,4 +103,9 @@ pub fn explicit_link(identifier: &[u8], link: LinkId) -> Vec<u8> {
 
 pub fn link_request(identifier: &[u8]) -> Vec<u8> {
     invoke(&[identifier, &object(LINK_REQUEST)])
+}
+
+/// A SubaddressTransfer invoke with that argument.
+pub fn subaddress_transfer(identifier: &[u8], argument: &[u8]) -> Vec<u8> {
+    invoke(&[identifier, &object(SUBADDRESS), argument])
 }

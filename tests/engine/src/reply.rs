@@ -119,6 +119,14 @@ impl<'a> Replies<'a> {
         let [a, b, c, d] = leg.to_be_bytes();
         self.put(&[0x84, a, b, c, d]);
     }
+
+    /// A component of at most 64 octets, zeros behind it.
+    pub fn pass_on(&mut self, leg: u32, component: &[u8]) {
+        let [a, b, c, d] = leg.to_be_bytes();
+        self.put(&[0x85, a, b, c, d, component.len() as u8]);
+        self.put(component);
+        self.put(&[0; 64][component.len()..]);
+    }
 }
 
 /// 0 unknown, 1 given, 2 withheld; without digits there is nothing to withhold.

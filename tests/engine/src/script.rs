@@ -16,9 +16,10 @@ pub struct Script<'a> {
     pub log: Vec<u8>,
     /// Where each record begins.
     pub starts: Vec<usize>,
-    /// References and LinkIds seen so far, for events that come too late.
+    /// References, LinkIds and legs seen so far, for events that come too late.
     pub old_references: Vec<Reference>,
     pub old_links: Vec<LinkId>,
+    pub old_legs: Vec<u32>,
     /// Whether an invoke is at times sent padded first, which is rejected.
     pub pads: bool,
 }
@@ -27,8 +28,8 @@ impl<'a> Script<'a> {
     pub fn new(rng: &'a mut Rng, subscribed: u8, alerting: u8) -> Script<'a> {
         let (_, board) = Board::fresh(subscribed, alerting);
         let log = vec![subscribed, alerting];
-        let (starts, old_references, old_links) = (Vec::new(), Vec::new(), Vec::new());
-        Script { rng, board, log, starts, old_references, old_links, pads: true }
+        let (starts, old_references, old_links, old_legs) = (Vec::new(), Vec::new(), Vec::new(), Vec::new());
+        Script { rng, board, log, starts, old_references, old_links, old_legs, pads: true }
     }
 
     pub fn events(&self) -> usize {
@@ -76,6 +77,24 @@ impl<'a> Script<'a> {
         self.pick_row(|row| matches!(row.standing, Standing::Joined { alerts: true, .. })).map(|row| row.leg)
     }
 
+    /// A leg whose call is with the served user.
+    pub fn pick_served(&mut self) -> Option<u32> {
+        self.pick_row(|row| row.call().is_some()).map(|row| row.leg)
+    }
+
+    /// A leg seen so far that is not on the board; none where the one taken is there.
+    pub fn pick_old_leg(&mut self) -> Option<u32> {
+        if self.old_legs.is_empty() {
+            return None;
+        }
+        let leg = self.rng.pick(&self.old_legs);
+        Some(leg).filter(|&leg| self.absent(leg))
+    }
+
+    fn absent(&self, leg: u32) -> bool {
+        self.board.rows.iter().all(|row| row.leg != leg || row.standing == Standing::Empty)
+    }
+
     pub fn call(&self, reference: Reference) -> Option<Call> {
         let calls = self.board.rows.iter().filter_map(Row::call);
         calls.copied().find(|call| call.reference == reference)
@@ -94,7 +113,7 @@ impl<'a> Script<'a> {
                 1..=6 => self.rng.below(200) as u32,
                 _ => self.rng.draw() as u32,
             };
-            if self.board.rows.iter().all(|row| row.leg != leg || row.standing == Standing::Empty) {
+            if self.absent(leg) {
                 return leg;
             }
         }
@@ -187,6 +206,7 @@ impl<'a> Script<'a> {
         let digits = self.digits();
         self.put(&records::open(reference, leg, direction, presentation, &digits));
         self.old_references.push(reference);
+        self.old_legs.push(leg);
         reference
     }
 

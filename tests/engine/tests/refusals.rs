@@ -5,7 +5,7 @@ mod common;
 use common::Desk;
 use engine::board::{Board, Reference, Row, Standing, RESTRICTED};
 use engine::event::event;
-use engine::records::{answer, execute, facility, hold, open, progress, release};
+use engine::records::{answer, execute, facility, hold, leg_facility, open, progress, release};
 
 /// Plays a record that has to be refused and checks that nothing changed.
 fn refused(board: &Board, record: &[u8], buffer: usize) -> u8 {
@@ -61,7 +61,7 @@ fn soundness_comes_before_the_record() {
 #[test]
 fn kind_comes_before_length() {
     let (_, board) = Board::fresh(1, 1);
-    for kind in [0, 7, 0x81, 255] {
+    for kind in [0, 10, 0x81, 0x85, 255] {
         assert_eq!(refused(&board, &[kind], 128), 4);
         assert_eq!(refused(&board, &[kind; 25], 128), 4);
     }
@@ -72,6 +72,7 @@ fn kind_comes_before_length() {
         release(1),
         facility(Reference(1), &[0xA2]),
         answer(1),
+        leg_facility(1, &[0xA1]),
     ];
     for record in whole {
         for length in 1..record.len() {

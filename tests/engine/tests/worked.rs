@@ -41,7 +41,7 @@ fn options() {
 fn unknown_kind_stops_the_reading() {
     assert_eq!(text(&[0, 0, 0]), "ect 1\n1 0 4 -\nend 0 0 0\n");
     assert_eq!(text(&[0, 0, 255, 4, 0, 0, 0, 0]), "ect 1\n1 255 4 -\nend 0 0 0\n");
-    assert_eq!(text(&[0, 0, 4, 0, 0, 0, 9, 7]), "ect 1\n1 4 10 -\n2 7 4 -\nend 0 0 0\n");
+    assert_eq!(text(&[0, 0, 4, 0, 0, 0, 9, 10]), "ect 1\n1 4 10 -\n2 10 4 -\nend 0 0 0\n");
 }
 
 #[test]

@@ -52,6 +52,15 @@ impl Desk {
         }
     }
 
+    /// Legs 101 and 102 joined; 102 alerts or not.
+    pub fn joined(alerts: bool) -> Desk {
+        let mut desk = Desk::new(1, 1);
+        desk.call(1, 0, 10, 2);
+        desk.call(2, 0, if alerts { 4 } else { 10 }, 0);
+        assert_eq!(desk.ask(1, &records::execute(ID)), DONE);
+        desk
+    }
+
     /// The component of the Reply to a component.
     pub fn ask(&mut self, reference: u16, component: &[u8]) -> Vec<u8> {
         let octets = self.ok(&records::facility(Reference(reference), component));
@@ -111,6 +120,16 @@ pub fn reply(reference: u16, component: &[u8]) -> Vec<u8> {
     octets.push(component.len() as u8);
     octets.extend(component);
     octets.resize(36, 0);
+    octets
+}
+
+/// A Pass on record.
+pub fn pass_on(leg: u32, component: &[u8]) -> Vec<u8> {
+    let mut octets = vec![0x85];
+    octets.extend(leg.to_be_bytes());
+    octets.push(component.len() as u8);
+    octets.extend(component);
+    octets.resize(70, 0);
     octets
 }
 
