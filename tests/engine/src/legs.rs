@@ -8,7 +8,11 @@ use crate::odd;
 use crate::records;
 use crate::script::Script;
 
+/// Rarer where the access is not subscribed: nobody is joined there, and most of it is 11.
 pub fn leg_facility(script: &mut Script) {
+    if script.board.subscribed == 0 && script.rng.percent(75) {
+        return;
+    }
     match script.rng.weighted(&[42, 36, 12, 6, 4]) {
         0 => subaddress(script),
         1 => missed(script),
@@ -97,8 +101,10 @@ fn leg(script: &mut Script, weights: [u32; 3]) -> u32 {
 
 /// Alerting ones are likelier; where none is joined, two are, if the access is subscribed.
 fn joined(script: &mut Script) -> Option<u32> {
-    if script.board.subscribed == 1 && script.pick_joined().is_none() {
-        pair(script);
+    for _ in 0..2 {
+        if script.board.subscribed == 1 && script.pick_joined().is_none() {
+            pair(script);
+        }
     }
     let alerting = script.pick_alerting().filter(|_| script.rng.percent(50));
     match alerting {
