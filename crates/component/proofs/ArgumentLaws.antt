@@ -70,6 +70,10 @@ module _ (s : List ℕ) (k : ℕ) {r : FirstInteger} {e : Element} {i : Option I
   integer-behind {o} {n} q = rw (add-comm n k, ← part-behind k n s) (rw q at (f .rest))
 
 -- ---- the operation
+-- the arguments of s, whose operation is an object identifier of n octets at k: which one it is decides
+pub record Opened (s : List ℕ) (last k n : ℕ) : Type 0 where
+  pub decides : argumentsIn last s ≡ cond (sameOctets (take (k + 2 + n - (k + 2)) (drop (k + 2) s)) (ectObject last)) (some (drop (k + 2 + n) s)) none
+
 module _ (s : List ℕ) (k : ℕ) {r : FirstObject} (f : ObjectRead (take (length s - k) (drop k s)) r (firstElement (take (length s - k) (drop k s)))) (h : k ≤ length s) {n : ℕ} (q : r ≡ object.Whole n) where
   pub object-within : k + 2 + n ≤ length s
   object-within =
@@ -86,8 +90,6 @@ module _ (s : List ℕ) (k : ℕ) {r : FirstObject} (f : ObjectRead (take (lengt
       let m : k + 2 + n ≡ k + (n + 2) = omega arith in
       rw (m, ← part-behind k (n + 2) s) (sym (rw q at (f .rest)))
 
-  -- the operation as the code sees it: which object identifier it is decides
-  pub object-decides : (last : ℕ) → identifiedIn s ≡ some (take (length s - k) (drop k s))
-      → argumentsIn last s ≡ cond (sameOctets (take (k + 2 + n - (k + 2)) (drop (k + 2) s)) (ectObject last)) (some (drop (k + 2 + n) s)) none
+  pub object-decides : (last : ℕ) → identifiedIn s ≡ some (take (length s - k) (drop k s)) → Opened s last k n
   unfolding argumentsIn behindOperation
-  object-decides last i = rw (i, contents, behind)
+  object-decides last i = record { decides = rw (i, contents, behind) }

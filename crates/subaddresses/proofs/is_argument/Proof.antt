@@ -60,7 +60,9 @@ is-user-specified-requires : tie.Need-is-user-specified-requires
 is-user-specified-requires c κs = search needs
 
 returns-5 : tie.Need-returns-5
-returns-5 c = c .is-user-specified .ensures ∙ simp (argument (c .before .before .before .before .before .before .before .before .before .first-element .ensures) (c .before .before .before .before .before .before .before .tag .given .1) (whole (c .before .before .before .before .before)), told (c .before .before .before .before .is-subaddress .ensures) (c .before .before .before .if2 .left), eq-eqb _ _ (c .before .before .if3 .left))
+returns-5 c =
+    let a = argument (c .before .before .before .before .before .before .before .before .before .first-element .ensures) (c .before .before .before .before .before .before .before .tag .given .1) (whole (c .before .before .before .before .before)) in
+    c .is-user-specified .ensures ∙ simp (a, told (c .before .before .before .before .is-subaddress .ensures) (c .before .before .before .if2 .left), eq-eqb _ _ (c .before .before .if3 .left))
 
 pub is-argument-spec : {M : Type 1} → statement M
 is-argument-spec =

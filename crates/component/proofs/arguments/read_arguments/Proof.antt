@@ -2,19 +2,14 @@
 use borrow.Author.Needs.{needs}
 use Rattle.component.proofs.arguments.read_arguments.Statement.{statement}
 use Rattle.component.proofs.arguments.read_arguments.Tie as tie
-use Prim.Native.Nat.{_+_, _-_, _≤_}
+use Prim.Native.Nat.{_+_, _≤_}
 use native.Mathlib.Omega.{arith}
-use mathlib.Core.Path.{_≡_}
-use mathlib.Core.Bool.{cond}
-use mathlib.Core.Option.{none, some}
-use lib.ListN.{length, take, drop}
+use lib.ListN.{length}
 use borrow.Author.Tests.{not-true, not-false}
-use Rattle.octets.specs.Lists.{sameOctets}
 use Rattle.octets.proofs.Places.{told}
-use Rattle.component.specs.Reading.{ectObject}
 use Rattle.component.specs.Arguments.{behindOperation, argumentsIn}
 use Rattle.component.proofs.ReadingLaws.{object-none}
-use Rattle.component.proofs.ArgumentLaws.{no-arguments, arguments-are, arguments-begin, arguments-none, object-within, object-decides}
+use Rattle.component.proofs.ArgumentLaws.{no-arguments, arguments-are, arguments-begin, arguments-none, object-within, Opened, object-decides}
 
 begin : (c : tie.After-known-told) → c .before .at .given .0 .0 ≤ length (c .before .before .before .before .before .args .component .now)
 begin c = arguments-begin (c .before .before .before .read-identified .ensures) (c .before .at .given .1)
@@ -22,10 +17,12 @@ begin c = arguments-begin (c .before .before .before .read-identified .ensures) 
 within : (c : tie.After-known-told2) → c .before .before .before .before .before .before .at .given .0 .0 + 2 + c .before .len .given .0 .0 ≤ length (c .before .before .before .before .before .before .before .before .before .before .args .component .now)
 within c = object-within (c .before .before .before .before .before .before .before .before .before .before .args .component .now) (c .before .before .before .before .before .before .at .given .0 .0) (c .before .before .before .read-object .ensures) (begin (c .before .before .before .before .before)) (c .before .len .given .1)
 
-opened : (c : tie.After-known-told2)
-    → argumentsIn (c .before .before .before .before .before .before .before .before .before .before .args .last) (c .before .before .before .before .before .before .before .before .before .before .args .component .now)
-    ≡ cond (sameOctets (take (c .before .before .before .before .before .before .at .given .0 .0 + 2 + c .before .len .given .0 .0 - (c .before .before .before .before .before .before .at .given .0 .0 + 2)) (drop (c .before .before .before .before .before .before .at .given .0 .0 + 2) (c .before .before .before .before .before .before .before .before .before .before .args .component .now))) (ectObject (c .before .before .before .before .before .before .before .before .before .before .args .last))) (some (drop (c .before .before .before .before .before .before .at .given .0 .0 + 2 + c .before .len .given .0 .0) (c .before .before .before .before .before .before .before .before .before .before .args .component .now))) none
-opened c = object-decides (c .before .before .before .before .before .before .before .before .before .before .args .component .now) (c .before .before .before .before .before .before .at .given .0 .0) (c .before .before .before .read-object .ensures) (begin (c .before .before .before .before .before)) (c .before .len .given .1) (c .before .before .before .before .before .before .before .before .before .before .args .last) (arguments-are (c .before .before .before .before .before .before .before .before .read-identified .ensures) (c .before .before .before .before .before .before .at .given .1))
+-- which object identifier the operation is decides
+opened : (c : tie.After-known-told2) → Opened (c .before .before .before .before .before .before .before .before .before .before .args .component .now) (c .before .before .before .before .before .before .before .before .before .before .args .last) (c .before .before .before .before .before .before .at .given .0 .0) (c .before .len .given .0 .0)
+opened c =
+    let i = arguments-are (c .before .before .before .before .before .before .before .before .read-identified .ensures) (c .before .before .before .before .before .before .at .given .1) in
+    let o = c .before .before .before .read-object .ensures in
+    object-decides (c .before .before .before .before .before .before .before .before .before .before .args .component .now) (c .before .before .before .before .before .before .at .given .0 .0) o (begin (c .before .before .before .before .before)) (c .before .len .given .1) (c .before .before .before .before .before .before .before .before .before .before .args .last) i
 
 read-identified-requires : tie.Need-read-identified-requires
 read-identified-requires c κs = search needs
@@ -86,7 +83,7 @@ is-ect-object-requires : tie.Need-is-ect-object-requires
 is-ect-object-requires c κs = search needs
 
 returns-3 : tie.Need-returns-3
-returns-3 c = no-arguments (rw (opened (c .before .before .before), told (c .before .is-ect-object .ensures) (not-true _ (c .if1 .taken))))
+returns-3 c = no-arguments (rw (opened (c .before .before .before) .decides, told (c .before .is-ect-object .ensures) (not-true _ (c .if1 .taken))))
 
 add-t8 : tie.Need-add-t8
 add-t8 c = omega (arith, within (c .before .before .before))
@@ -95,7 +92,7 @@ add-t12 : tie.Need-add-t12
 add-t12 c = omega (arith, within (c .before .before .before))
 
 returns-4 : tie.Need-returns-4
-returns-4 c = record { is = rw (opened (c .before .before .before), told (c .before .is-ect-object .ensures) (not-false _ (c .if1 .left))); within = within (c .before .before .before) }
+returns-4 c = record { is = rw (opened (c .before .before .before) .decides, told (c .before .is-ect-object .ensures) (not-false _ (c .if1 .left))); within = within (c .before .before .before) }
 
 pub read-arguments-spec : {M : Type 1} → statement M
 read-arguments-spec =

@@ -56,7 +56,8 @@ enum-told-2 c = search needs
 returns-4 : tie.Need-returns-4
 returns-4 c =
     let w = rw (rest, c .enum-told2 .given .1) at (sym (c .before .before .read-elements .ensures)) in
-    no-arguments (simp (framed (c .before .before .before .before .before .before .before .before .before .before .args .component .now) (c .before .before .before .before .before .before .before .before .if1 .left), eq-eqb _ _ (c .before .before .before .before .before .before .if2 .left), eq-eqb _ _ (c .before .before .before .before .if3 .left), w))
+    let f = framed (c .before .before .before .before .before .before .before .before .before .before .args .component .now) (c .before .before .before .before .before .before .before .before .if1 .left) in
+    no-arguments (simp (f, eq-eqb _ _ (c .before .before .before .before .before .before .if2 .left), eq-eqb _ _ (c .before .before .before .before .if3 .left), w))
 
 sub-read-integer : tie.Need-sub-read-integer
 sub-read-integer c = search needs
@@ -80,7 +81,8 @@ returns-5 : tie.Need-returns-5
 returns-5 c =
     let w = rw (rest, c .before .before .before .before .enum-told .given .1) at (sym (c .before .before .before .before .before .before .read-elements .ensures)) in
     let i = rw rest at (integer-none (c .before .before .read-integer .ensures) (c .enum-told3 .given .1)) in
-    no-arguments (simp (framed (c .before .before .before .before .before .before .before .before .before .before .before .before .before .before .args .component .now) (c .before .before .before .before .before .before .before .before .before .before .before .before .if1 .left), eq-eqb _ _ (c .before .before .before .before .before .before .before .before .before .before .if2 .left), eq-eqb _ _ (c .before .before .before .before .before .before .before .before .if3 .left), w, i))
+    let f = framed (c .before .before .before .before .before .before .before .before .before .before .before .before .before .before .args .component .now) (c .before .before .before .before .before .before .before .before .before .before .before .before .if1 .left) in
+    no-arguments (simp (f, eq-eqb _ _ (c .before .before .before .before .before .before .before .before .before .before .if2 .left), eq-eqb _ _ (c .before .before .before .before .before .before .before .before .if3 .left), w, i))
 
 add-t3 : tie.Need-add-t3
 add-t3 c = omega (arith, within c)
@@ -90,7 +92,8 @@ returns-6 c =
     let w = rw (rest, c .before .before .before .before .before .enum-told .given .1) at (sym (c .before .before .before .before .before .before .before .read-elements .ensures)) in
     let i = rw rest at (integer-is (c .before .before .before .read-integer .ensures) (c .before .next .given .1)) in
     let b = rw rest at (integer-behind (c .before .before .before .before .before .before .before .before .before .before .before .before .before .before .before .args .component .now) 2 (c .before .before .before .read-integer .ensures) (c .before .before .before .before .before .before .before .before .before .before .before .before .before .if1 .left) (c .before .next .given .1)) in
-    record { is = simp (framed (c .before .before .before .before .before .before .before .before .before .before .before .before .before .before .before .args .component .now) (c .before .before .before .before .before .before .before .before .before .before .before .before .before .if1 .left), eq-eqb _ _ (c .before .before .before .before .before .before .before .before .before .before .before .if2 .left), eq-eqb _ _ (c .before .before .before .before .before .before .before .before .before .if3 .left), w, i, ← b); within = within c }
+    let f = framed (c .before .before .before .before .before .before .before .before .before .before .before .before .before .before .before .args .component .now) (c .before .before .before .before .before .before .before .before .before .before .before .before .before .if1 .left) in
+    record { is = simp (f, eq-eqb _ _ (c .before .before .before .before .before .before .before .before .before .before .before .if2 .left), eq-eqb _ _ (c .before .before .before .before .before .before .before .before .before .if3 .left), w, i, ← b); within = within c }
 
 pub read-identified-spec : {M : Type 1} → statement M
 read-identified-spec =
