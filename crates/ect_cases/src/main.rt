@@ -1,5 +1,5 @@
-// Runs cases and prints a line for each: every refusal of `step`, a transfer, README's sample, invokes that are
-// written and read back, and integers that are padded or not.
+// Runs cases and prints a line for each: every refusal of `step`, a transfer with a subaddress passed on, README's
+// sample, invokes that are written and read back, integers that are padded or not, and forms of subaddresses.
 use board::Board;
 use board::Options;
 use ect::StepAnswer;
@@ -7,11 +7,13 @@ use ect::Stepped;
 use events::refusal_number;
 use show::decimal;
 use show::text;
+use subaddress::leg_facility;
 
 mod invoking;
 mod padding;
 mod sample;
 mod show;
+mod subaddress;
 mod transfer;
 
 // Prints what a step returned, and hands its board on.
@@ -76,7 +78,7 @@ fn before_the_board(fresh: Board) {
     );
     run(fresh, b"empty record", b"");
     run(fresh, b"record one octet short", b"\x02\x00\x01");
-    run(fresh, b"kind 7", b"\x07");
+    run(fresh, b"kind 10", b"\x0a");
     run(fresh, b"Progress to state 7", b"\x02\x00\x01\x07");
     run(fresh, b"reference 8000", b"\x02\x80\x00\x0a");
 }
@@ -109,6 +111,8 @@ fn on_the_board(fresh: Board) {
     run(one, b"Answer of no leg", b"\x06\x00\x00\x00\x02");
     run(one, b"Hold in state 3", b"\x03\x00\x01\x01");
     run(one, b"Answer of a served call", b"\x06\x00\x00\x00\x01");
+    run(one, b"Leg facility of no leg", &leg_facility(2, 3));
+    run(one, b"Leg facility of a served call", &leg_facility(1, 3));
     run(one, b"Release", b"\x04\x00\x00\x00\x01");
 }
 
@@ -122,4 +126,5 @@ fn main() {
     invoking::written_and_read();
     invoking::buffers();
     padding::padded_or_not();
+    subaddress::forms();
 }

@@ -1,7 +1,9 @@
-// How an exchange calls `step`: a held call and an alerting one are transferred to each other, and the ward answers.
+// How an exchange calls `step`: a held call and an alerting one are transferred to each other, the ward's subaddress
+// is passed on, and the ward answers.
 use crate::show::decimal;
 use crate::show::front;
 use crate::show::text;
+use crate::subaddress::leg_facility;
 use board::Board;
 use ect::StepAnswer;
 use events::refusal_number;
@@ -64,5 +66,7 @@ pub fn ward_transfer(fresh: Board) {
     let ward = open(held, 2, 0);
     let alerting = event(ward, b"\x02\x00\x02\x04");
     let joined = execute(alerting, 1);
-    event(joined, b"\x06\x00\x00\x00\x02");
+    let passed = event(joined, &leg_facility(2, 3));
+    let refused = event(passed, &leg_facility(2, 4));
+    event(refused, b"\x06\x00\x00\x00\x02");
 }
