@@ -15,10 +15,10 @@ use Rattle.rules.specs.Replies.{octets}
 use Rattle.rules.specs.Step.{step, stepTested, decision, rowsAfter, candidateAfter, boardAfter, replies}
 use Rattle.rules.specs.Book.{freshBook, bookRules, bookDecision, bookAfter, bookStep, entriesAfter, candidateMoves}
 use Rattle.rules.specs.History.{boardAt, bookAt, history, returns}
-use Rattle.rules.specs.Examples.{HistoryExamples}
+use Rattle.rules.specs.Examples.{HistoryExamples, PassingExamples}
 
 pub history-examples : HistoryExamples
-unfolding firstElement siblings wholeElements reading invokeReading identifiedReading behindOperation identifiedIn argumentsIn isSubaddressTransfer octets sound soundRows soundEntries validRow fresh changedRows rowAfter request callsPair serve decide step stepTested decision rowsAfter candidateAfter boardAfter replies freshBook bookRules bookDecision bookAfter bookStep entriesAfter candidateMoves boardAt bookAt history returns
+unfolding firstElement siblings wholeElements reading invokeReading identifiedReading sound soundRows soundEntries validRow fresh changedRows rowAfter request callsPair serve decide step stepTested decision rowsAfter candidateAfter boardAfter replies freshBook bookRules bookDecision bookAfter bookStep entriesAfter candidateMoves boardAt bookAt history returns
 history-examples = record {
   returned = refl;
   history-is = refl;
@@ -26,11 +26,16 @@ history-examples = record {
   transferred-book = refl;
   not-transferred = refl;
   calls-stay = refl;
+  answered = refl;
+  released = refl;
+  released-book = refl;
+}
+
+pub passing-examples : PassingExamples
+unfolding firstElement siblings wholeElements reading invokeReading identifiedReading behindOperation identifiedIn argumentsIn isSubaddressTransfer sound soundRows soundEntries validRow fresh changedRows rowAfter request callsPair serve decide step stepTested decision rowsAfter candidateAfter boardAfter replies octets boardAt returns
+passing-examples = record {
   passed-on = refl;
   passed-on-octets = refl;
   passed-on-board = refl;
   not-passed-on = refl;
-  answered = refl;
-  released = refl;
-  released-book = refl;
 }
