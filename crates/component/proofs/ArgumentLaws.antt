@@ -12,16 +12,18 @@ use lib.Seq.{drop-drop}
 use Rattle.octets.specs.declared.IntegerOctets.{IntegerOctets}
 use Rattle.octets.specs.Lists.{sameOctets}
 use Rattle.octets.proofs.Places.{rest}
-use Rattle.component.specs.declared.values.FirstInteger.{FirstInteger}
-use Rattle.component.specs.declared.values.FirstInteger.the-variants as integer
-use Rattle.component.specs.declared.values.FirstObject.{FirstObject}
-use Rattle.component.specs.declared.values.FirstObject.the-variants as object
+use Rattle.elements.specs.declared.values.FirstInteger.{FirstInteger}
+use Rattle.elements.specs.declared.values.FirstInteger.the-variants as integer
+use Rattle.elements.specs.declared.values.FirstObject.{FirstObject}
+use Rattle.elements.specs.declared.values.FirstObject.the-variants as object
 use Rattle.component.specs.declared.arguments.Arguments.{Arguments}
 use Rattle.component.specs.declared.arguments.Arguments.the-variants as arguments
-use Rattle.component.specs.Elements.{Element, firstElement, wholeElements}
-use Rattle.component.specs.Reading.{integerIn, objectIn, restOf, ectObject}
+use Rattle.elements.specs.Elements.{Element, firstElement, wholeElements}
+use Rattle.elements.specs.Values.{integerIn, objectIn, restOf}
+use Rattle.component.specs.Reading.{ectObject}
 use Rattle.component.specs.Arguments.{behindIdentifier, behindOperation, identifiedIn, argumentsIn}
-use Rattle.component.specs.Code.Readers.{IntegerRead, ObjectRead, ArgumentsRead}
+use Rattle.elements.specs.Code.Readers.{IntegerRead, ObjectRead}
+use Rattle.component.specs.Code.Readers.{ArgumentsRead}
 
 pub no-arguments : {s : List ℕ} {o : Option (List ℕ)} → none ≡ o → ArgumentsRead s arguments.None o
 no-arguments q = record { is = q; within = omega arith }

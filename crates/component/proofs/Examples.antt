@@ -9,7 +9,7 @@ use Rattle.component.specs.declared.Operation.the-variants.{EctExecute, 
 use Rattle.component.specs.declared.Reject.the-variants.{Null}
 use Rattle.component.specs.declared.Reading.the-variants.{Rejected, Invoked}
 use Rattle.component.specs.declared.Answer.the-variants.{LinkIdResult}
-use Rattle.component.specs.Elements.{firstElement, siblings, wholeElements}
+use Rattle.elements.specs.Elements.{firstElement, siblings, wholeElements}
 use Rattle.component.specs.Reading.{reading, invokeReading, identifiedReading}
 use Rattle.component.specs.Answers.{integer, answerOctets}
 

@@ -1,6 +1,5 @@
 -- Laws of components, for the proofs of this crate and of those above it.
 pub mod ArgumentLaws
-pub mod ElementLaws
 pub mod Promises
 pub mod ReadingLaws
 pub mod WriterLaws

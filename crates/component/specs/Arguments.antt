@@ -9,8 +9,9 @@ use lib.ListN.{length}
 use Rattle.octets.specs.declared.IntegerOctets.{IntegerOctets}
 use Rattle.octets.specs.Lists.{sameOctets}
 use Rattle.octets.specs.Tests.{bindOption}
-use Rattle.component.specs.Elements.{firstElement, wholeElements}
-use Rattle.component.specs.Reading.{integerIn, objectIn, restOf, ectObject}
+use Rattle.elements.specs.Elements.{firstElement, wholeElements}
+use Rattle.elements.specs.Values.{integerIn, objectIn, restOf}
+use Rattle.component.specs.Reading.{ectObject}
 
 -- the octets behind an operation that is the object identifier with this last number
 abbrev pub behindObject : ℕ → Option (List ℕ) → List ℕ → Option (List ℕ)

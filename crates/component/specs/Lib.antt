@@ -1,5 +1,4 @@
 -- What components are read as, and the octets of the answers.
-pub mod Elements
 pub mod Reading
 pub mod Answers
 pub mod Arguments

@@ -7,45 +7,14 @@ use lib.Dec.{eqb, leb}
 use lib.IntN.{pos}
 use lib.ListN.{length}
 use Rattle.octets.specs.declared.IntegerOctets.{IntegerOctets}
-use Rattle.octets.specs.declared.IntegerOctets.the-variants.{One, Two}
 use Rattle.octets.specs.Lists.{sameOctets}
-use Rattle.octets.specs.Numbers.{integerOf, padded, sameInteger}
+use Rattle.octets.specs.Numbers.{integerOf, sameInteger}
 use Rattle.component.specs.declared.Operation.the-variants.{EctExecute, ExplicitEctExecute, EctLinkIdRequest}
 use Rattle.component.specs.declared.Reject.the-variants.{Null, General, Invoke}
 use Rattle.component.specs.declared.Reading.{Reading}
 use Rattle.component.specs.declared.Reading.the-variants.{Ignored, Rejected, Invoked}
-use Rattle.component.specs.Elements.{Element, Bad, Whole, firstElement, wholeElements}
-
--- one or two octets of contents
-abbrev pub oneOrTwo : List ℕ → Option IntegerOctets
-oneOrTwo [] = none
-oneOrTwo (a ∷ []) = some (One a)
-oneOrTwo (a ∷ b ∷ []) = some (Two a b)
-oneOrTwo (a ∷ b ∷ c ∷ r) = none
-
--- "02 of length 1 or 2"; an element that is absent is not of the required form
-abbrev pub integerOctetsIn : Element → Option IntegerOctets
-integerOctetsIn Bad = none
-integerOctetsIn (Whole tag contents rest) = cond (eqb tag 2) (oneOrTwo contents) none
-
--- "a padded identifier or operation counts as not being of the required form, and a padded LinkId likewise" (document 02, slip 4)
-abbrev pub unlessPadded : Option IntegerOctets → Option IntegerOctets
-unlessPadded none = none
-unlessPadded (some o) = cond (padded o) none (some o)
-
--- an integer of the required form
-abbrev pub integerIn : Element → Option IntegerOctets
-integerIn e = unlessPadded (integerOctetsIn e)
-
--- "06 of length 1 or more": the octets of an object identifier
-abbrev pub objectIn : Element → Option (List ℕ)
-objectIn Bad = none
-objectIn (Whole tag contents rest) = cond (eqb tag 6 && leb 1 (length contents)) (some contents) none
-
--- the octets after the element
-abbrev pub restOf : Element → List ℕ
-restOf Bad = []
-restOf (Whole tag contents rest) = rest
+use Rattle.elements.specs.Elements.{Element, firstElement, wholeElements}
+use Rattle.elements.specs.Values.{integerIn, objectIn, restOf}
 
 -- "object identifier 04 00 82 71 01 then" one more
 abbrev pub ectObject : ℕ → List ℕ

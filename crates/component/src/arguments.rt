@@ -1,11 +1,11 @@
 // The arguments of an invoke whose operation is an object identifier of the supplementary service.
-use crate::elements::Elements;
-use crate::elements::read_elements;
 use crate::invoke::is_ect_object;
-use crate::values::FirstInteger;
-use crate::values::FirstObject;
-use crate::values::read_integer;
-use crate::values::read_object;
+use elements::Elements;
+use elements::read_elements;
+use elements::values::FirstInteger;
+use elements::values::FirstObject;
+use elements::values::read_integer;
+use elements::values::read_object;
 ghost use Rattle.component.specs.Arguments.{identifiedIn, argumentsIn};
 ghost use Rattle.component.specs.Code.Readers.{ArgumentsRead};
 

@@ -3,19 +3,20 @@
 use crate::Operation;
 use crate::Reading;
 use crate::Reject;
-use crate::elements::Elements;
-use crate::elements::read_elements;
-use crate::values::FirstInteger;
-use crate::values::FirstObject;
-use crate::values::read_integer;
-use crate::values::read_object;
+use elements::Elements;
+use elements::read_elements;
+use elements::values::FirstInteger;
+use elements::values::FirstObject;
+use elements::values::read_integer;
+use elements::values::read_object;
 use octets::Integer;
 use octets::IntegerOctets;
 use octets::LinkId;
 ghost use mathlib.Core.Path.{_≡_};
 ghost use Rattle.octets.specs.Lists.{sameOctets};
-ghost use Rattle.component.specs.Elements.{firstElement};
-ghost use Rattle.component.specs.Reading.{integerIn, ectObject, localReading, linkIdReading, globalReading};
+ghost use Rattle.elements.specs.Elements.{firstElement};
+ghost use Rattle.elements.specs.Values.{integerIn};
+ghost use Rattle.component.specs.Reading.{ectObject, localReading, linkIdReading, globalReading};
 ghost use Rattle.component.specs.Reading.{identifiedReading, invokeReading, framedReading};
 
 // Whether an object identifier is that of the supplementary service, with this last number.

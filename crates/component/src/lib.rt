@@ -1,9 +1,7 @@
 // Components of remote operations: what an invoke asks for, and the answers to it.
 mod answers;
 pub mod arguments;
-pub mod elements;
 mod invoke;
-mod values;
 
 use octets::IntegerOctets;
 use octets::LinkId;

@@ -17,15 +17,16 @@ use Rattle.octets.specs.Numbers.{AreOctets, integerOf, padded, fewest, sameInte
 use Rattle.octets.proofs.Laws.{one-fewest, two-fewest}
 use Rattle.octets.proofs.Lists.{left, right, eqb-eq}
 use Rattle.octets.proofs.SameInteger.{sameInteger-eq}
-use Rattle.component.proofs.ReadingLaws.{no-option, unpadded-is}
+use Rattle.elements.proofs.ValueLaws.{no-option, unpadded-is}
 use Rattle.component.specs.declared.Operation.{Operation}
 use Rattle.component.specs.declared.Operation.the-variants.{EctExecute, ExplicitEctExecute, EctLinkIdRequest}
 use Rattle.component.specs.declared.Reading.the-variants.{Ignored, Rejected, Invoked}
 use Rattle.component.specs.declared.Reject.{Reject}
 use Rattle.component.specs.declared.Reject.the-variants.{Null, Invoke}
 use Rattle.component.specs.Answers.{element, contentsOf, integer}
-use Rattle.component.specs.Elements.{Element, Bad, Whole, validHead, firstElement, wholeElements}
-use Rattle.component.specs.Reading.{oneOrTwo, integerOctetsIn, integerIn, objectIn, restOf, ectObject}
+use Rattle.elements.specs.Elements.{Element, Bad, Whole, validHead, firstElement, wholeElements}
+use Rattle.elements.specs.Values.{oneOrTwo, integerOctetsIn, integerIn, objectIn, restOf}
+use Rattle.component.specs.Reading.{ectObject}
 use Rattle.component.specs.Reading.{linkIdReading, globalReading, objectReading, localReading, operationReading}
 use Rattle.component.specs.Reading.{identifiedReading, identifierReading, invokeReading, framedReading, reading}
 use Rattle.invokes.specs.Invokes.{operationOctets, invokeOctets}

@@ -23,7 +23,7 @@ use Rattle.component.specs.declared.Operation.the-variants.{EctExecute, Explici
 use Rattle.component.specs.declared.Reading.{Reading}
 use Rattle.component.specs.declared.Reading.the-variants.{Invoked}
 use Rattle.component.specs.Answers.{element, integer}
-use Rattle.component.specs.Elements.{firstElement, wholeElements, siblings}
+use Rattle.elements.specs.Elements.{firstElement, wholeElements, siblings}
 use Rattle.component.specs.Reading.{ectObject, reading, invokeReading, identifiedReading}
 use Rattle.invokes.specs.declared.WriteAnswer.{WriteAnswer}
 use Rattle.invokes.specs.Invokes.{invokeOctets}

@@ -10,8 +10,8 @@ use Rattle.component.specs.declared.Operation.{Operation}
 use Rattle.component.specs.declared.Operation.the-variants.{EctExecute, ExplicitEctExecute, EctLinkIdRequest}
 use Rattle.component.specs.declared.Reading.{Reading}
 use Rattle.component.specs.declared.Reading.the-variants.{Invoked}
-use Rattle.component.specs.Elements.{firstElement}
-use Rattle.component.specs.Reading.{restOf}
+use Rattle.elements.specs.Elements.{firstElement}
+use Rattle.elements.specs.Values.{restOf}
 
 -- ---- written, then read
 

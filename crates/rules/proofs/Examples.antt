@@ -1,6 +1,6 @@
 -- The lists beside the whole-history theorem, by computation.
 use mathlib.Core.Path.{refl}
-use Rattle.component.specs.Elements.{firstElement, siblings, wholeElements}
+use Rattle.elements.specs.Elements.{firstElement, siblings, wholeElements}
 use Rattle.component.specs.Reading.{reading, invokeReading, identifiedReading}
 use Rattle.component.specs.Arguments.{behindOperation, identifiedIn, argumentsIn}
 use Rattle.subaddresses.specs.SubaddressTransfer.{isSubaddressTransfer}

@@ -1,6 +1,6 @@
 -- The situations of document 01 and its worked log, by computation.
 use mathlib.Core.Path.{refl}
-use Rattle.component.specs.Elements.{firstElement, siblings, wholeElements}
+use Rattle.elements.specs.Elements.{firstElement, siblings, wholeElements}
 use Rattle.component.specs.Reading.{reading, invokeReading, identifiedReading}
 use Rattle.component.specs.Answers.{answerOctets}
 use Rattle.board.specs.Soundness.{sound, soundRows, soundEntries, validRow}

@@ -3,7 +3,7 @@ use mathlib.Core.Path.{_≡_, refl}
 use mathlib.Core.List.{List, [], _∷_}
 use mathlib.Core.Bool.{true, false}
 use Prim.Native.Nat.{ℕ}
-use Rattle.component.specs.Elements.{firstElement, siblings, wholeElements}
+use Rattle.elements.specs.Elements.{firstElement, siblings, wholeElements}
 use Rattle.component.specs.Arguments.{behindOperation, identifiedIn, argumentsIn}
 use Rattle.subaddresses.specs.SubaddressTransfer.{isSubaddressTransfer}
 

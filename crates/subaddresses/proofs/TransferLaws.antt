@@ -11,12 +11,12 @@ use lib.ListN.{length, take, drop, length-drop}
 use lib.Seq.{length-take-le}
 use borrow.Author.Tests.{eq-eqb, ne-eqb}
 use Rattle.octets.proofs.Places.{rest}
-use Rattle.component.specs.declared.elements.FirstElement.{FirstElement}
-use Rattle.component.specs.declared.elements.FirstElement.the-variants as first
-use Rattle.component.specs.Elements.{Element, firstElement, noOctets}
+use Rattle.elements.specs.declared.FirstElement.{FirstElement}
+use Rattle.elements.specs.declared.FirstElement.the-variants as first
+use Rattle.elements.specs.Elements.{Element, firstElement, noOctets}
 use Rattle.component.specs.Arguments.{argumentsIn}
-use Rattle.component.specs.Code.Readers.{FirstElementRead}
-use Rattle.component.proofs.ElementLaws.{found, ends}
+use Rattle.elements.specs.Code.Readers.{FirstElementRead}
+use Rattle.elements.proofs.ElementLaws.{found, ends}
 use Rattle.subaddresses.specs.SubaddressTransfer.{isSubaddress, isOddCount, perhapsOddCount, isUserSpecified, isArgument, isSubaddressTransfer}
 
 and-true : (b : Bool) → (b && true) ≡ b

@@ -5,7 +5,7 @@ use mathlib.Core.List.{List, [], _∷_}
 use lib.Dec.{eqb, leb}
 use lib.ListN.{length}
 use Rattle.octets.specs.Tests.{has}
-use Rattle.component.specs.Elements.{Element, Bad, Whole, firstElement, noOctets}
+use Rattle.elements.specs.Elements.{Element, Bad, Whole, firstElement, noOctets}
 use Rattle.component.specs.Arguments.{argumentsIn}
 use Rattle.subaddresses.specs.declared.LegComponent.{LegComponent}
 use Rattle.subaddresses.specs.declared.LegComponent.the-variants as leg-component

@@ -1,10 +1,10 @@
 // Subaddresses that joined parties send each other: which components carry one.
 use component::arguments::Arguments;
 use component::arguments::read_arguments;
-use component::elements::FirstElement;
-use component::elements::first_element;
+use elements::FirstElement;
+use elements::first_element;
 ghost use mathlib.Core.Path.{_≡_};
-ghost use Rattle.component.specs.Elements.{firstElement};
+ghost use Rattle.elements.specs.Elements.{firstElement};
 ghost use Rattle.subaddresses.specs.SubaddressTransfer.{isSubaddress, perhapsOddCount, isUserSpecified};
 ghost use Rattle.subaddresses.specs.SubaddressTransfer.{isArgument, isSubaddressTransfer, saysTransfer};
 

@@ -8,7 +8,7 @@ use mathlib.Core.Path.{_≡_, _∙_}
 use lib.ListN.{length}
 use borrow.Author.Tests.{eq-eqb, ne-eqb}
 use Rattle.octets.proofs.Places.{told}
-use Rattle.component.proofs.ElementLaws.{ends, missing}
+use Rattle.elements.proofs.ElementLaws.{ends, missing}
 use Rattle.subaddresses.proofs.TransferLaws.{argument, more-behind}
 
 within : (c : tie.After-known-told) → c .before .tag .given .0 .1 .0 + 2 ≤ length (c .before .before .before .before .before .args .s .now)

@@ -2,7 +2,7 @@
 use borrow.Author.Needs.{needs}
 use Rattle.subaddresses.proofs.is_perhaps_odd_count.Statement.{statement}
 use Rattle.subaddresses.proofs.is_perhaps_odd_count.Tie as tie
-use Rattle.component.proofs.ElementLaws.{missing}
+use Rattle.elements.proofs.ElementLaws.{missing}
 use Rattle.subaddresses.proofs.TransferLaws.{nothing-follows, something-follows, other-tag, other-length, one-octet}
 
 returns : tie.Need-returns

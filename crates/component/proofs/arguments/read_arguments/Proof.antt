@@ -8,7 +8,7 @@ use lib.ListN.{length}
 use borrow.Author.Tests.{not-true, not-false}
 use Rattle.octets.proofs.Places.{told}
 use Rattle.component.specs.Arguments.{behindOperation, argumentsIn}
-use Rattle.component.proofs.ReadingLaws.{object-none}
+use Rattle.elements.proofs.ValueLaws.{object-none}
 use Rattle.component.proofs.ArgumentLaws.{no-arguments, arguments-are, arguments-begin, arguments-none, object-within, Opened, object-decides}
 
 begin : (c : tie.After-known-told) → c .before .at .given .0 .0 ≤ length (c .before .before .before .before .before .args .component .now)

@@ -8,7 +8,7 @@ use mathlib.Core.Path.{sym}
 use lib.ListN.{length}
 use borrow.Author.Tests.{eq-eqb, ne-eqb}
 use Rattle.octets.proofs.Places.{rest}
-use Rattle.component.proofs.ReadingLaws.{integer-is, integer-none}
+use Rattle.elements.proofs.ValueLaws.{integer-is, integer-none}
 use Rattle.component.proofs.ArgumentLaws.{no-arguments, no-frame, framed, integer-within, integer-behind}
 
 within : (c : tie.After-known-told) → c .before .next .given .0 .1 .0 + 2 ≤ length (c .before .before .before .before .before .before .before .before .before .before .before .before .before .before .before .args .component .now)

@@ -6,7 +6,7 @@ use Prim.Native.Nat.{_≤_}
 use mathlib.Core.Path.{_∙_}
 use lib.ListN.{length}
 use Rattle.component.specs.Reading.{invokeReading}
-use Rattle.component.proofs.ReadingLaws.{integer-is, integer-rest, integer-ends, integer-none}
+use Rattle.elements.proofs.ValueLaws.{integer-is, integer-rest, integer-ends, integer-none}
 
 within : (c : tie.After-octets) → c .octets .given .0 .1 .0 ≤ length (c .before .before .before .before .args .s .now)
 within c = integer-ends (c .before .before .read-integer .ensures) (c .octets .given .1)

@@ -2,7 +2,7 @@
 use borrow.Author.Needs.{needs}
 use Rattle.component.proofs.invoke.read_link_id.Statement.{statement}
 use Rattle.component.proofs.invoke.read_link_id.Tie as tie
-use Rattle.component.proofs.ReadingLaws.{integer-is, integer-none}
+use Rattle.elements.proofs.ValueLaws.{integer-is, integer-none}
 
 read-integer-requires : tie.Need-read-integer-requires
 read-integer-requires c κs = search needs

@@ -7,7 +7,7 @@ use native.Mathlib.Omega.{arith}
 use mathlib.Core.Path.{_∙_}
 use lib.ListN.{length}
 use Rattle.component.specs.Reading.{identifiedReading}
-use Rattle.component.proofs.ReadingLaws.{integer-is, integer-none, object-is, object-rest, object-ends, object-none}
+use Rattle.elements.proofs.ValueLaws.{integer-is, integer-none, object-is, object-rest, object-ends, object-none}
 
 within : (c : tie.After-len) → c .len .given .0 .0 + 2 ≤ length (c .before .before .before .before .before .before .before .args .s .now)
 within c = object-ends (c .before .before .read-object .ensures) (c .len .given .1)

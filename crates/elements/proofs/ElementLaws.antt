@@ -8,10 +8,10 @@ use mathlib.Core.Bool.{Bool, true, false, not, _&&_, _||_, cond}
 use lib.ListN.{length, getD, take, drop, length-drop}
 use lib.Dec.{eqb, leb, ltb}
 use Rattle.octets.proofs.Places.{rest}
-use Rattle.component.specs.declared.elements.FirstElement.{FirstElement}
-use Rattle.component.specs.declared.elements.FirstElement.the-variants as first
-use Rattle.component.specs.Elements.{Element, Bad, Whole, validHead, firstElement, constructed, wellFormed, siblings, wholeElements}
-use Rattle.component.specs.Code.Readers.{elementOf, FirstElementRead, checked}
+use Rattle.elements.specs.declared.FirstElement.{FirstElement}
+use Rattle.elements.specs.declared.FirstElement.the-variants as first
+use Rattle.elements.specs.Elements.{Element, Bad, Whole, validHead, firstElement, constructed, wellFormed, siblings, wholeElements}
+use Rattle.elements.specs.Code.Readers.{elementOf, FirstElementRead, checked}
 
 -- ---- parts of a slice
 drop-two : (n a b : ℕ) (s : List ℕ) → drop (n + 2) (a ∷ b ∷ s) ≡ drop n s

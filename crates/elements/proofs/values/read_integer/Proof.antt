@@ -1,9 +1,9 @@
--- `component::values::read_integer` meets its contract. Assumes nothing.
+-- `elements::values::read_integer` meets its contract. Assumes nothing.
 use borrow.Author.Needs.{needs}
-use Rattle.component.proofs.values.read_integer.Statement.{statement}
-use Rattle.component.proofs.values.read_integer.Tie as tie
+use Rattle.elements.proofs.values.read_integer.Statement.{statement}
+use Rattle.elements.proofs.values.read_integer.Tie as tie
 use mathlib.Core.Path.{sym, _∙_}
-use Rattle.component.proofs.ReadingLaws.{still-none, dropped, kept}
+use Rattle.elements.proofs.ValueLaws.{still-none, dropped, kept}
 
 read-integer-octets-requires : tie.Need-read-integer-octets-requires
 read-integer-octets-requires c κs = search needs

@@ -1,13 +1,13 @@
--- `component::values::read_integer_octets` meets its contract. Assumes nothing.
+-- `elements::values::read_integer_octets` meets its contract. Assumes nothing.
 use borrow.Author.Needs.{needs}
-use Rattle.component.proofs.values.read_integer_octets.Statement.{statement}
-use Rattle.component.proofs.values.read_integer_octets.Tie as tie
+use Rattle.elements.proofs.values.read_integer_octets.Statement.{statement}
+use Rattle.elements.proofs.values.read_integer_octets.Tie as tie
 use Prim.Native.Nat.{_+_, _≤_}
 use native.Mathlib.Omega.{arith}
 use lib.ListN.{length}
 use borrow.Author.Tests.{ne-eqb}
-use Rattle.component.proofs.ElementLaws.{found, ends, missing}
-use Rattle.component.proofs.ReadingLaws.{no-integer, one, two, longer}
+use Rattle.elements.proofs.ElementLaws.{found, ends, missing}
+use Rattle.elements.proofs.ValueLaws.{no-integer, one, two, longer}
 
 within : (c : tie.After-tag) → c .tag .given .0 .1 .0 + 2 ≤ length (c .before .before .before .before .args .s .now)
 within c = ends (c .before .before .first-element .ensures) (c .tag .given .1)

@@ -1,10 +1,10 @@
--- `component::values::read_object` meets its contract. Assumes nothing.
+-- `elements::values::read_object` meets its contract. Assumes nothing.
 use borrow.Author.Needs.{needs}
-use Rattle.component.proofs.values.read_object.Statement.{statement}
-use Rattle.component.proofs.values.read_object.Tie as tie
+use Rattle.elements.proofs.values.read_object.Statement.{statement}
+use Rattle.elements.proofs.values.read_object.Tie as tie
 use borrow.Author.Tests.{ne-eqb}
-use Rattle.component.proofs.ElementLaws.{found, missing}
-use Rattle.component.proofs.ReadingLaws.{no-object, no-contents, object-whole}
+use Rattle.elements.proofs.ElementLaws.{found, missing}
+use Rattle.elements.proofs.ValueLaws.{no-object, no-contents, object-whole}
 
 first-element-requires : tie.Need-first-element-requires
 first-element-requires c κs = search needs

@@ -1,10 +1,10 @@
 // Elements read as values: integers and object identifiers.
-use crate::elements::FirstElement;
-use crate::elements::first_element;
+use crate::FirstElement;
+use crate::first_element;
 use octets::IntegerOctets;
-ghost use Rattle.component.specs.Elements.{firstElement};
-ghost use Rattle.component.specs.Reading.{integerOctetsIn, integerIn};
-ghost use Rattle.component.specs.Code.Readers.{IntegerRead, ObjectRead};
+ghost use Rattle.elements.specs.Elements.{firstElement};
+ghost use Rattle.elements.specs.Values.{integerOctetsIn, integerIn};
+ghost use Rattle.elements.specs.Code.Readers.{IntegerRead, ObjectRead};
 
 // The first element as an integer.
 pub enum FirstInteger {

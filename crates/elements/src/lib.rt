@@ -1,7 +1,10 @@
-// Elements: a tag octet, a length octet, and that many octets of contents.
-ghost use Rattle.component.specs.Elements.{firstElement, wholeElements};
-ghost use Rattle.component.specs.Code.Readers.{FirstElementRead, checked, areWhole};
+// Elements: a tag octet, a length octet, and that many octets of contents; and those that are integers or object
+// identifiers.
+ghost use Rattle.elements.specs.Elements.{firstElement, wholeElements};
+ghost use Rattle.elements.specs.Code.Readers.{FirstElementRead, checked, areWhole};
 ghost use mathlib.Core.Path.{_≡_};
+
+pub mod values;
 
 // The first element of some octets.
 pub enum FirstElement {

@@ -2,22 +2,22 @@
 use Prim.Native.Nat.{ℕ, _<_}
 use borrow.Fn.Kinds.{In, Out}
 use borrow.Fn.PlainCycle.{Measures, is, falls, and}
-use Rattle.component.proofs.elements.read_element.Reads as read-element
-use Rattle.component.proofs.elements.read_element.Kinds as read-element-kinds
-use Rattle.component.proofs.elements.+read_element+read_elements.Lts-read_element as read-element-lts
-use Rattle.component.proofs.elements.read_elements.Reads as read-elements
-use Rattle.component.proofs.elements.read_elements.Kinds as read-elements-kinds
-use Rattle.component.proofs.elements.+read_element+read_elements.Lts-read_elements as read-elements-lts
-use Rattle.component.proofs.elements.first_element.Reads as first-element-reads
-use Rattle.component.proofs.elements.+read_element+read_elements.{statement}
-use Rattle.component.proofs.elements.+read_element+read_elements.Tie.{close}
+use Rattle.elements.proofs.read_element.Reads as read-element
+use Rattle.elements.proofs.read_element.Kinds as read-element-kinds
+use Rattle.elements.proofs.+read_element+read_elements.Lts-read_element as read-element-lts
+use Rattle.elements.proofs.read_elements.Reads as read-elements
+use Rattle.elements.proofs.read_elements.Kinds as read-elements-kinds
+use Rattle.elements.proofs.+read_element+read_elements.Lts-read_elements as read-elements-lts
+use Rattle.elements.proofs.first_element.Reads as first-element-reads
+use Rattle.elements.proofs.+read_element+read_elements.{statement}
+use Rattle.elements.proofs.+read_element+read_elements.Tie.{close}
 use Prim.Native.Nat.{_*_, _+_, _-_, _≤_}
 use native.Mathlib.Omega.{arith}
 use mathlib.Core.Path.{_∙_}
 use lib.ListN.{length, drop, length-drop, length-take}
 use borrow.Author.Needs.{needs}
 use borrow.Author.Tests.{eq-eqb, ne-eqb}
-use Rattle.component.proofs.ElementLaws.{taken, ends, missing, bad, sound, unsound, none-left, too-deep, first-bad, first-whole}
+use Rattle.elements.proofs.ElementLaws.{taken, ends, missing, bad, sound, unsound, none-left, too-deep, first-bad, first-whole}
 
 abbrev μ-read-element : Measures 1 read-element-kinds.ps ℕ
 μ-read-element κs a = 2 * length (a .0 .now)

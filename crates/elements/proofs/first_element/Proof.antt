@@ -1,10 +1,10 @@
--- `component::elements::first_element` meets its contract. Assumes nothing.
+-- `elements::first_element` meets its contract. Assumes nothing.
 use borrow.Author.Needs.{needs}
-use Rattle.component.proofs.elements.first_element.Statement.{statement}
-use Rattle.component.proofs.elements.first_element.Tie as tie
+use Rattle.elements.proofs.first_element.Statement.{statement}
+use Rattle.elements.proofs.first_element.Tie as tie
 use native.Mathlib.Omega.{arith}
 use borrow.Author.Tests.{lt-ltb, le-ltb, le-leb, lt-leb, eq-eqb, ne-eqb}
-use Rattle.component.proofs.ElementLaws.{short, front, bad, whole}
+use Rattle.elements.proofs.ElementLaws.{short, front, bad, whole}
 
 returns : tie.Need-returns
 returns c = bad (short (c .before .args .s .now) (c .if1 .taken))

@@ -1,0 +1,3 @@
+-- Laws of elements, for the proofs of this crate and of those above it.
+pub mod ElementLaws
+pub mod ValueLaws
