@@ -113,24 +113,24 @@ pub fn tell(leg: u32, message: u8, description: u8, mark: u8, request: u8, digit
     octets
 }
 
-/// A Reply record.
-pub fn reply(reference: u16, component: &[u8]) -> Vec<u8> {
-    let mut octets = vec![0x81];
-    octets.extend(reference.to_be_bytes());
+/// A record of that length with a component: its kind, whom it goes to, the count, the component, zeros.
+fn with_component(kind: u8, to: &[u8], component: &[u8], length: usize) -> Vec<u8> {
+    let mut octets = vec![kind];
+    octets.extend(to);
     octets.push(component.len() as u8);
     octets.extend(component);
-    octets.resize(36, 0);
+    octets.resize(length, 0);
     octets
+}
+
+/// A Reply record.
+pub fn reply(reference: u16, component: &[u8]) -> Vec<u8> {
+    with_component(0x81, &reference.to_be_bytes(), component, 36)
 }
 
 /// A Pass on record.
 pub fn pass_on(leg: u32, component: &[u8]) -> Vec<u8> {
-    let mut octets = vec![0x85];
-    octets.extend(leg.to_be_bytes());
-    octets.push(component.len() as u8);
-    octets.extend(component);
-    octets.resize(70, 0);
-    octets
+    with_component(0x85, &leg.to_be_bytes(), component, 70)
 }
 
 /// Two Drop records.
