@@ -1,8 +1,8 @@
 // Finding rows of the board, by every key that the rules look a row up by.
 ghost use Rattle.std.specs.Prelude.{◌≡◌};
-ghost use Rattle.octets.specs.Lists.{place_from, find as findIn};
+ghost use Rattle.octets.specs.Lists.{place_from, find as find_in};
 ghost use Rattle.board.specs.Entries.{occupied, taken, calls, link_id_in, is_link_id};
-ghost use Rattle.board.specs.Lookup.{is_call_of, found_at, found_row, found_answer, lookup as lookupRows};
+ghost use Rattle.board.specs.Lookup.{is_call_of, found_at, found_row, found_answer, lookup as lookup_rows};
 ghost use Rattle.board.specs.Code.Keys.{has_link_id_of, matches_key, open_check_of};
 ghost use Rattle.board.specs.LinkIds.{most_link_ids, live, free_link_id, optional_link_id};
 
@@ -10,7 +10,7 @@ use crate::{Board, Found, MOST_LINK_IDS, OptionalLinkId, Row, Standing, empty_ro
 use octets::{CallReference, LinkId};
 
 // What a row is found by: its call's reference, its leg, its call's LinkId; or that it is empty.
-#[derive(Drop)]
+#[derive(Clone, Copy)]
 pub enum Key {
     Reference(CallReference),
     Leg(u32),
@@ -19,7 +19,7 @@ pub enum Key {
 }
 
 // Whether a row has the leg, whether a call has the reference, and whether a row is empty.
-#[derive(Drop)]
+#[derive(Clone, Copy)]
 pub struct OpenCheck {
     pub leg: bool,
     pub reference: bool,
@@ -97,7 +97,7 @@ pub fn find(board: Board, key: Key) -> Found
 
 // The lowest row that has the key, or an empty row where none has it.
 pub fn find_row(board: Board, key: Key) -> Row
-    ensures { result ≡ found_row (findIn (matches_key key) board.rows) }
+    ensures { result ≡ found_row (find_in (matches_key key) board.rows) }
 {
     for k in 0..64 {
         let row = board.rows[k];
@@ -130,7 +130,7 @@ pub fn check_open(board: Board, leg: u32, reference: CallReference) -> OpenCheck
 
 // The lowest place, counted from 0, with a call of that reference.
 pub fn lookup(board: Board, reference: CallReference) -> Found
-    ensures { found_answer result ≡ lookupRows reference.0 board.rows }
+    ensures { found_answer result ≡ lookup_rows reference.0 board.rows }
 {
     find(board, Key::Reference(reference))
 }

@@ -1,7 +1,9 @@
 // The board: 64 rows by value, two options and the next LinkId candidate.
+#![tactic(auto)]
+
 ghost use Rattle.std.specs.Prelude.{◌≡◌};
 ghost use Rattle.board.specs.Soundness.{valid_options};
-ghost use Rattle.board.specs.Making.{empty_row, empty_board, making_refused, fresh as freshBoard};
+ghost use Rattle.board.specs.Making.{empty_row, empty_board, making_refused, fresh as fresh_board};
 
 use octets::{CallReference, LinkId};
 
@@ -11,14 +13,14 @@ pub mod finding;
 pub const MOST_LINK_IDS: usize = 16;
 
 // 0 outgoing, 1 incoming.
-#[derive(Drop)]
+#[derive(Clone, Copy)]
 pub enum Direction {
     Outgoing,
     Incoming,
 }
 
 // The call states of ETS 300 102-1 that a served call can have: 3, 4, 7 and 10.
-#[derive(Drop)]
+#[derive(Clone, Copy)]
 pub enum CallState {
     OutgoingCallProceeding,
     CallDelivered,
@@ -27,7 +29,7 @@ pub enum CallState {
 }
 
 // The auxiliary states, 0 to 3.
-#[derive(Drop)]
+#[derive(Clone, Copy)]
 pub enum AuxiliaryState {
     Idle,
     HoldRequest,
@@ -35,14 +37,14 @@ pub enum AuxiliaryState {
     RetrieveRequest,
 }
 
-#[derive(Drop)]
+#[derive(Clone, Copy)]
 pub enum OptionalLinkId {
     Absent,
     Present(LinkId),
 }
 
 // A call of a far party with the served user.
-#[derive(Drop)]
+#[derive(Clone, Copy)]
 pub struct Call {
     pub reference: CallReference,
     pub direction: Direction,
@@ -52,7 +54,7 @@ pub struct Call {
 }
 
 // The standing of a row: empty, a call with the served user, or joined with the leg of a partner.
-#[derive(Drop)]
+#[derive(Clone, Copy)]
 pub enum Standing {
     Empty,
     Served(Call),
@@ -60,7 +62,7 @@ pub enum Standing {
 }
 
 // The number of a far party: its presentation (0 shown, 1 restricted), and as many digits as the count says.
-#[derive(Drop)]
+#[derive(Clone, Copy)]
 pub struct PartyNumber {
     pub presentation: u8,
     pub count: u8,
@@ -68,7 +70,7 @@ pub struct PartyNumber {
 }
 
 // A row: the leg number of a far party, its number, and beside it the standing.
-#[derive(Drop)]
+#[derive(Clone, Copy)]
 pub struct Row {
     pub leg: u32,
     pub number: PartyNumber,
@@ -76,13 +78,13 @@ pub struct Row {
 }
 
 // Octets, so that a board may hold any and soundness speaks of them.
-#[derive(Drop)]
+#[derive(Clone, Copy)]
 pub struct Options {
     pub subscribed: u8,
     pub alerting: u8,
 }
 
-#[derive(Drop)]
+#[derive(Clone, Copy)]
 pub struct Board {
     pub rows: [Row; 64],
     pub options: Options,
@@ -91,35 +93,35 @@ pub struct Board {
 
 // What a row that is not empty says of its leg: its call with the served user,
 // or its partner's leg and whether it still alerts.
-#[derive(Drop)]
+#[derive(Clone, Copy)]
 pub enum Connection {
     WithUser(Call),
     WithPartner { partner: u32, alerting: bool },
 }
 
 // A far party: its leg and its connection. The book's term "entry".
-#[derive(Drop)]
+#[derive(Clone, Copy)]
 pub struct Entry {
     pub leg: u32,
     pub connection: Connection,
 }
 
 // A far party with a call: its leg and its call with the served user.
-#[derive(Drop)]
+#[derive(Clone, Copy)]
 pub struct Party {
     pub leg: u32,
     pub call: Call,
 }
 
 // The entry that was looked for.
-#[derive(Drop)]
+#[derive(Clone, Copy)]
 pub enum FoundEntry {
     This(Entry),
     Nothing,
 }
 
 // The party that was looked for.
-#[derive(Drop)]
+#[derive(Clone, Copy)]
 pub enum FoundParty {
     This(Party),
     Nothing,
@@ -127,7 +129,7 @@ pub enum FoundParty {
 
 // A change that an accepted event makes to rows that are taken: of the call with a reference its call state,
 // its auxiliary state or its LinkId; two legs joined; a leg's alerting ended; a leg's row emptied, or a pair's.
-#[derive(Drop)]
+#[derive(Clone, Copy)]
 pub enum Change {
     SetState(CallReference, CallState),
     SetAuxiliary(CallReference, AuxiliaryState),
@@ -139,21 +141,21 @@ pub enum Change {
 }
 
 // What making a board returns: 0 and the board, or 5 and the empty board with both options 0.
-#[derive(Drop)]
+#[derive(Clone, Copy)]
 pub struct Made {
     pub returned: u8,
     pub board: Board,
 }
 
 // What lookup answers: 0 and a place, or 9 and place 0.
-#[derive(Drop)]
+#[derive(Clone, Copy)]
 pub enum Found {
     At(usize),
     Nothing,
 }
 
 // Legs, joined rows and live LinkIds.
-#[derive(Drop)]
+#[derive(Clone, Copy)]
 pub struct Tally {
     pub legs: usize,
     pub joined: usize,
@@ -161,7 +163,7 @@ pub struct Tally {
 }
 
 // What the count answers: 0 and the three counts, or 2 and zeros.
-#[derive(Drop)]
+#[derive(Clone, Copy)]
 pub enum Counted {
     Counts {
         legs: usize,
@@ -206,7 +208,7 @@ pub fn valid_options(options: Options) -> bool
 
 // A fresh board of two option octets, each 0 or 1.
 pub fn fresh(subscribed: u8, alerting: u8) -> Made
-    ensures { result ≡ freshBoard subscribed alerting }
+    ensures { result ≡ fresh_board subscribed alerting }
 {
     let options = Options {
         subscribed,

@@ -3,9 +3,8 @@ use Prim.{tt}
 use Prim.Native.Nat.{ℕ}
 use mathlib.Core.Path.{◌≡◌}
 use mathlib.Core.List.{List}
-use base.Fml.{GName}
 use contract.Lifetimes.{Lfts}
-use Rattle.octets.proofs.Lent.{lent}
+use Rattle.octets.proofs.Lent.{lent_shared}
 use Rattle.component.specs.declared.Reading.{Reading}
 use Rattle.component.specs.Reading.{reading}
 use Rattle.component.proofs.read.Reads as read-contract
@@ -13,8 +12,8 @@ use Rattle.component.proofs.read.Reads as read-contract
 -- `read` was lent octets, and returned r
 pub record ReadMet (s : List ℕ) (r : Reading) : Type 0 where
   pub lifetimes : Lfts 1
-  pub component_at_lem : (ℕ × ℕ) × GName
-  pub met : read-contract.Post lifetimes (lent component_at_lem s, tt) r (lent component_at_lem s, tt)
+  pub component_at : ℕ × ℕ
+  pub met : read-contract.Post lifetimes (lent_shared component_at s, tt) r (lent_shared component_at s, tt)
 
 pub read_promise : (s : List ℕ) (r : Reading) → ReadMet s r → r ≡ reading s
 read_promise s r h = h.met

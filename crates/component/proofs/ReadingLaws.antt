@@ -10,7 +10,6 @@ use borrow.Author.Tests.{ne_eqb}
 use Rattle.octets.specs.Lists.{same_octets}
 use Rattle.component.specs.declared.Reading.TheVariants.{Ignored, Rejected}
 use Rattle.component.specs.declared.Reject.TheVariants.{Null}
-use Rattle.elements.specs.declared.values.FirstObject.TheVariants as object
 use Rattle.elements.specs.Elements.{whole_elements}
 use Rattle.component.specs.Reading.{ect_object, invoke_reading, framed_reading, reading}
 

@@ -7,7 +7,7 @@ use elements::values::{FirstInteger, FirstObject, read_integer, read_object};
 use elements::{Elements, read_elements};
 
 // The octets behind a part of a component.
-#[derive(Drop)]
+#[derive(Clone, Copy)]
 pub enum Arguments {
     // Where they begin.
     From(usize),

@@ -1,4 +1,6 @@
 // Components of remote operations: what an invoke asks for, and the answers to it.
+#![tactic(auto)]
+
 mod answers;
 pub mod arguments;
 mod invoke;
@@ -10,7 +12,7 @@ ghost use Rattle.component.specs.Answers.{encoded};
 use octets::{IntegerOctets, LinkId};
 
 // What an invoke asks for.
-#[derive(Drop)]
+#[derive(Clone, Copy)]
 pub enum Operation {
     EctExecute,
     ExplicitEctExecute(LinkId),
@@ -19,7 +21,7 @@ pub enum Operation {
 
 // A Reject, by its problem's number: with NULL in place of the invoke identifier and a general problem,
 // or with the identifier as received and a general or an invoke problem.
-#[derive(Drop)]
+#[derive(Clone, Copy)]
 pub enum Reject {
     Null(u8),
     General(IntegerOctets, u8),
@@ -27,7 +29,7 @@ pub enum Reject {
 }
 
 // What a component is read as. An invoke has its identifier as received.
-#[derive(Drop)]
+#[derive(Clone, Copy)]
 pub enum Reading {
     Ignored,
     Rejected(Reject),
@@ -35,7 +37,7 @@ pub enum Reading {
 }
 
 // The component that answers, with the identifier of the invoke as received.
-#[derive(Drop)]
+#[derive(Clone, Copy)]
 pub enum Answer {
     Rejected(Reject),
     // A general error, by its number.
@@ -46,7 +48,7 @@ pub enum Answer {
 }
 
 // A component to be sent: as many octets as the count says, then zeros.
-#[derive(Drop)]
+#[derive(Clone, Copy)]
 pub struct Component {
     pub octets: [u8; 32],
     pub count: u8,

@@ -1,4 +1,6 @@
 // Digits as octets: whether octets are digits, and digits in the 15 octets that a number has.
+#![tactic(auto)]
+
 ghost use Rattle.std.specs.Prelude.{◌≡◌};
 ghost use Rattle.octets.specs.Lists.{all};
 ghost use Rattle.digits.specs.Digits.{is_digit, in_fifteen};

@@ -1,5 +1,7 @@
 // Elements: a tag octet, a length octet, and that many octets of contents; and those that are integers or object
 // identifiers.
+#![tactic(auto)]
+
 ghost use Rattle.elements.specs.Elements.{first_element, whole_elements};
 ghost use Rattle.elements.specs.Code.Readers.{FirstElementRead, checked, are_whole};
 ghost use Rattle.std.specs.Prelude.{◌≡◌};
@@ -7,7 +9,7 @@ ghost use Rattle.std.specs.Prelude.{◌≡◌};
 pub mod values;
 
 // The first element of some octets.
-#[derive(Drop)]
+#[derive(Clone, Copy)]
 pub enum FirstElement {
     // Its tag, and how many octets of contents follow the tag and the length.
     Whole { tag: u8, len: usize },
@@ -15,7 +17,7 @@ pub enum FirstElement {
 }
 
 // Whether some octets are elements up to their end.
-#[derive(Drop)]
+#[derive(Clone, Copy)]
 pub enum Elements {
     Whole,
     Bad,

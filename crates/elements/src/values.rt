@@ -7,7 +7,7 @@ use crate::{FirstElement, first_element};
 use octets::IntegerOctets;
 
 // The first element as an integer.
-#[derive(Drop)]
+#[derive(Clone, Copy)]
 pub enum FirstInteger {
     // Its octets, and where the octets after it begin.
     Whole { octets: IntegerOctets, next: usize },
@@ -15,7 +15,7 @@ pub enum FirstInteger {
 }
 
 // The first element as an object identifier.
-#[derive(Drop)]
+#[derive(Clone, Copy)]
 pub enum FirstObject {
     // How many octets of contents follow the tag and the length.
     Whole { len: usize },

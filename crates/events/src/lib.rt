@@ -1,11 +1,13 @@
 // Event records: what the octets of an event ask for, or why they are no record; and the numbers of refusals.
+#![tactic(auto)]
+
 ghost use Rattle.std.specs.Prelude.{◌≡◌};
 ghost use Rattle.events.specs.Refusals.{refusal_number};
 
 pub mod records;
 
 // Why an event is refused, in the order of the checks; documents 01 and 02 number them from 1 to 12.
-#[derive(Drop)]
+#[derive(Clone, Copy)]
 pub enum Refusal {
     BufferTooSmall,
     UnsoundBoard,

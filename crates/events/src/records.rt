@@ -14,7 +14,7 @@ use octets::CallReference;
 
 // What a record asks for. The digits of an Open and components stay in the record: 15 octets from place 10, of a
 // Facility as many as said from place 4, and of a Leg facility as many as said of the 64 octets from place 6.
-#[derive(Drop)]
+#[derive(Clone, Copy)]
 pub enum RequestHead {
     Malformed(Refusal),
     Open {

@@ -1,25 +1,27 @@
 // Numbers as octets: call references, LinkIds, invoke identifiers, and the integers of a component.
+#![tactic(auto)]
+
 ghost use Rattle.std.specs.Prelude.{◌≡◌};
 ghost use Rattle.octets.specs.Numbers.{signed, bits, integer_of, padded, fewest, next_link_id, same_integer};
 
 // A call reference: unsigned; its low 15 bits are not all zero where a board is sound.
-#[derive(Drop)]
+#[derive(Clone, Copy)]
 pub struct CallReference(pub u16);
 
 // A LinkId: from -32768 to 32767, and negative ones are ordinary.
-#[derive(Drop)]
+#[derive(Clone, Copy)]
 pub struct LinkId(pub i16);
 
 // An invoke identifier, by which an answer names its invoke: from -32768 to 32767.
-#[derive(Drop)]
+#[derive(Clone, Copy)]
 pub struct InvokeIdentifier(pub i16);
 
 // An integer of a component: from -32768 to 32767, two's complement in one or two octets.
-#[derive(Drop)]
+#[derive(Clone, Copy)]
 pub struct Integer(pub i16);
 
 // The contents of an integer element: one octet, or two with the high one first.
-#[derive(Drop)]
+#[derive(Clone, Copy)]
 pub enum IntegerOctets {
     One(u8),
     Two(u8, u8),

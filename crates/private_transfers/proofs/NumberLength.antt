@@ -13,7 +13,7 @@ use Rattle.private_transfers.specs.declared.Indication.{Indication}
 use Rattle.private_transfers.specs.declared.Indication.TheVariants.{Alerting, Active, NoInform}
 use Rattle.private_transfers.specs.declared.RedirectionNumber.{RedirectionNumber}
 use Rattle.private_transfers.specs.declared.EctInform.{EctInform}
-use Rattle.private_transfers.specs.EctInform.{given, are_digits, digits_in, number_element, number_in, indicated, inform_of, inform_by, inform_held, inform_argument, inform_behind, inform_in}
+use Rattle.private_transfers.specs.EctInform.{are_digits, digits_in, number_element, number_in, indicated, inform_of, inform_by, inform_held, inform_argument, inform_behind, inform_in}
 
 data LongNumber : Option RedirectionNumber → Type 0 where
   no_number : LongNumber none

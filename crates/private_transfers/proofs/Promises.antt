@@ -4,9 +4,8 @@ use Prim.{tt}
 use Prim.Native.Nat.{ℕ}
 use mathlib.Core.Path.{◌≡◌}
 use mathlib.Core.List.{List}
-use base.Fml.{GName}
 use contract.Lifetimes.{Lfts}
-use Rattle.octets.proofs.Lent.{lent}
+use Rattle.octets.proofs.Lent.{lent_shared}
 use Rattle.private_transfers.specs.declared.EctInform.{EctInform}
 use Rattle.private_transfers.specs.EctInform.{inform_in}
 use Rattle.private_transfers.proofs.read_inform.Reads as read-contract
@@ -14,8 +13,8 @@ use Rattle.private_transfers.proofs.read_inform.Reads as read-contract
 -- `read_inform` was lent octets, and returned r
 pub record ReadMet (s : List ℕ) (r : EctInform) : Type 0 where
   pub lifetimes : Lfts 1
-  pub component_at_lem : (ℕ × ℕ) × GName
-  pub met : read-contract.Post lifetimes (lent component_at_lem s, tt) r (lent component_at_lem s, tt)
+  pub component_at : ℕ × ℕ
+  pub met : read-contract.Post lifetimes (lent_shared component_at s, tt) r (lent_shared component_at s, tt)
 
 pub read_promise : (s : List ℕ) (r : EctInform) → ReadMet s r → r ≡ inform_in s
 read_promise s r h = h.met

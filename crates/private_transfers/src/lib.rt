@@ -1,4 +1,6 @@
 // Transfers made inside a private exchange: what an EctInform invoke says of one.
+#![tactic(auto)]
+
 ghost use Rattle.std.specs.Prelude.{◌≡◌};
 ghost use Rattle.std.proofs.Math.Option.{none, some};
 ghost use Rattle.elements.specs.Elements.{first_element};
@@ -11,7 +13,7 @@ use digits::{all_digits, in_fifteen};
 use elements::{FirstElement, first_element};
 
 // How the other call of the transfer stands; `NoInform` where the component is no EctInform invoke.
-#[derive(Drop)]
+#[derive(Clone, Copy)]
 pub enum Indication {
     Alerting,
     Active,
@@ -19,7 +21,7 @@ pub enum Indication {
 }
 
 // How a number was sent: not at all, without its digits, or with them.
-#[derive(Drop)]
+#[derive(Clone, Copy)]
 pub enum NumberForm {
     NotSent,
     Restricted,
@@ -27,7 +29,7 @@ pub enum NumberForm {
 }
 
 // The number of the other call's party: the digits are those received where it is given, else zeros.
-#[derive(Drop)]
+#[derive(Clone, Copy)]
 pub struct RedirectionNumber {
     pub form: NumberForm,
     pub count: u8,
@@ -35,14 +37,14 @@ pub struct RedirectionNumber {
 }
 
 // What a component says as an EctInform invoke.
-#[derive(Drop)]
+#[derive(Clone, Copy)]
 pub struct EctInform {
     pub indication: Indication,
     pub number: RedirectionNumber,
 }
 
 // A redirection number, if it was found to have one of its forms.
-#[derive(Drop)]
+#[derive(Clone, Copy)]
 struct FoundNumber {
     found: bool,
     number: RedirectionNumber,

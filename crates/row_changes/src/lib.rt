@@ -1,4 +1,6 @@
 // What an accepted event makes of the rows.
+#![tactic(auto)]
+
 ghost use Rattle.std.specs.Prelude.{◌≡◌, eqb, ◌||◌};
 ghost use Rattle.board.specs.States.{delivered};
 ghost use Rattle.row_changes.specs.Code.Named.{named_call, subject_of, concerns};
@@ -12,7 +14,7 @@ use board::{
 use octets::{CallReference, LinkId};
 
 // The call of a row that has the reference looked for.
-#[derive(Drop)]
+#[derive(Clone, Copy)]
 enum Named {
     This(Call),
     Other,
@@ -175,7 +177,7 @@ fn row_after(row: Row, change: Change) -> Row
 }
 
 // Whom a change concerns: the call with a reference, or the rows of one or two legs.
-#[derive(Drop)]
+#[derive(Clone, Copy)]
 enum Subject {
     Call(CallReference),
     Legs(u32, u32),

@@ -4,7 +4,7 @@ use native.Mathlib.Nat.{zero-add}
 use native.Mathlib.Numerals.{add-one}
 use native.Mathlib.Omega.{arith}
 use mathlib.Core.Path.{◌≡◌, refl, sym, ap, ◌∙◌}
-use mathlib.Core.Bool.{Bool, true, ◌&&◌, ◌||◌, not, and_true, and_assoc, or_false}
+use mathlib.Core.Bool.{Bool, true, ◌&&◌, ◌||◌, not, and-true, and_assoc, or-false}
 use mathlib.Core.List.{List, [], ◌∷◌}
 use lib.Dec.{eqb, ltb}
 use lib.ListN.{length, take, drop}
@@ -33,7 +33,10 @@ right_all k zero ds = right_zeros (k + 0) k ds (omega arith)
 right_all k (suc m) [] = refl
 right_all k (suc m) (d ∷ ds) =
     let e : k + suc m ≡ suc k + m = omega arith in
-    rw (lt-ltb k (k + suc m) (omega arith), or_false (is_digit d), e, right_all (suc k) m ds) (sym (and_assoc (is_digit d) (all is_digit (take m ds)) (zeros (drop m ds))))
+    let s : (is_digit d && right_from (suc k + m) (suc k) ds) ≡ (is_digit d && all is_digit (take m ds) && zeros (drop m ds)) =
+    ap (λ (b : Bool). is_digit d && b) (right_all (suc k) m ds) ∙ sym (and_assoc (is_digit d) (all is_digit (take m ds)) (zeros (drop m ds)))
+    in
+    rw (lt-ltb k (k + suc m) (omega arith)) (ap (λ (b : Bool). b && right_from (k + suc m) (suc k) ds) (or-false (is_digit d)) ∙ rw e s)
 
 pub right_valid : (n : ℕ) (ds : List ℕ) → length ds ≡ 15 → n ≤ 15 → right_from n 0 ds ≡ valid_digits n ds
 right_valid n ds l h = rw (eq-eqb (length ds) 15 l, le-leb n 15 h) (ap (λ (m : ℕ). right_from m 0 ds) (sym (zero-add n)) ∙ right_all 0 n ds)
@@ -46,4 +49,4 @@ right_step {ds} {k} {d} n valid s = rw (s.split, add-one k) (and_assoc valid (ri
 
 pub right_end : {ds : List ℕ} {k : ℕ} (n : ℕ) (valid : Bool) → Past ds k → valid ≡ (valid && right_from n k (drop k ds))
 unfolding right_from
-right_end n valid s = rw s.rest (sym (and_true valid))
+right_end n valid s = rw s.rest (sym (and-true valid))

@@ -2,7 +2,7 @@
 use Prim.Native.Nat.{ℕ, ◌+◌, ◌-◌, ◌*◌, ◌≤◌, ◌<◌}
 use native.Mathlib.Omega.{arith}
 use mathlib.Core.Path.{◌≡◌, refl, sym, ap}
-use mathlib.Core.Bool.{Bool, true, false, ◌&&◌, ◌||◌, not, and_false}
+use mathlib.Core.Bool.{Bool, true, false, ◌&&◌, ◌||◌, not, and-false}
 use mathlib.Core.Option.{none}
 use lib.Dec.{eqb}
 use lib.IntN.{ℤ, pos, negsuc}
@@ -106,7 +106,7 @@ paired_at m n (Served c) t = go c.reference.0 c.link _
     go r Absent x = refl
     go r (Present z) x = refl
 paired_at m n (Joined p a) Empty = refl
-paired_at m n (Joined p a) (Served d) = ap (λ (b : Bool). not (eqb m p) && b) (rw (and_false (eqb p n)) (go d.reference.0 d.link _))
+paired_at m n (Joined p a) (Served d) = ap (λ (b : Bool). not (eqb m p) && b) (rw (and-false (eqb p n)) (go d.reference.0 d.link _))
   where
     go : (r : ℕ) (k : OptionalLinkId) (x : Bool) → false ≡ (eqb (call_key r k).joined 1 && x)
     go r Absent x = refl

@@ -7,7 +7,7 @@ use board::{Call, OptionalLinkId, Row, Standing};
 use octets::LinkId;
 
 // The numbers of a row; `served`, `linked` and `joined` are 1 where it has a reference, a LinkId, a partner, else 0.
-#[derive(Drop)]
+#[derive(Clone, Copy)]
 pub struct RowKey {
     pub served: usize,
     pub reference: u32,
@@ -19,7 +19,7 @@ pub struct RowKey {
 }
 
 // A joined leg, its partner, and 1 where it alerts.
-#[derive(Drop)]
+#[derive(Clone, Copy)]
 pub struct JoinedLeg {
     pub leg: u32,
     pub partner: u32,

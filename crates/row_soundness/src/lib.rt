@@ -1,4 +1,6 @@
 // The tests of one row and of two rows that soundness is made of, and what a row adds to the counts.
+#![tactic(auto)]
+
 ghost use Rattle.std.specs.Prelude.{◌≡◌};
 ghost use Rattle.octets.specs.Tests.{none_or};
 ghost use Rattle.board.specs.States.{same_auxiliary, valid_direction, holdable, valid_call};

@@ -1,7 +1,9 @@
 // Lookup and counts over rows that are lent as a slice, however many. A row is copied out of the slice, and what is
 // decided of it is decided in functions over rows by value.
+#![tactic(auto)]
+
 ghost use Rattle.std.specs.Prelude.{◌≡◌, ◌+◌, ◌≤◌, ◌<◌, ◌^◌};
-ghost use Rattle.board.specs.Lookup.{found_answer, lookup as lookupRows};
+ghost use Rattle.board.specs.Lookup.{found_answer, lookup as lookup_rows};
 ghost use Rattle.board.specs.Counts.{counted_answer, counts};
 ghost use Rattle.rows.specs.Code.Steps.{lookup_step, compared, compared_with_all, added, counted};
 
@@ -27,8 +29,9 @@ fn lookup_step(found: Found, row: Row, reference: CallReference, place: usize) -
 }
 
 // The lowest place, counted from 0, with a call of that reference.
+#[tactic(auto, using(crate::proofs::Folds::fold_end, crate::proofs::Searching::found_all))]
 pub fn lookup(rows: &[Row], reference: CallReference) -> Found
-    ensures { found_answer result ≡ lookupRows reference.0 rows.now }
+    ensures { found_answer result ≡ lookup_rows reference.0 rows.now }
 {
     let mut found = Found::Nothing;
     let mut place = 0usize;
@@ -42,20 +45,20 @@ pub fn lookup(rows: &[Row], reference: CallReference) -> Found
 
 // The same of 64 rows by value.
 pub fn lookup_in(rows: [Row; 64], reference: CallReference) -> Found
-    ensures { found_answer result ≡ lookupRows reference.0 rows }
+    ensures { found_answer result ≡ lookup_rows reference.0 rows }
 {
     lookup(&rows, reference)
 }
 
 // A row and its place.
-#[derive(Drop)]
+#[derive(Clone, Copy)]
 struct RowAt {
     row: Row,
     place: usize,
 }
 
 // What the rows say of one: whether a later row clashes with it, and whether a row is its partner or it needs none.
-#[derive(Drop)]
+#[derive(Clone, Copy)]
 struct Comparison {
     clashes: bool,
     paired: bool,
@@ -80,6 +83,7 @@ fn compare(comparison: Comparison, other: Row, subject: RowAt, place: usize) -> 
 }
 
 // What all rows say of one of them.
+#[tactic(auto, using(crate::proofs::Folds::fold_step, crate::proofs::Folds::fold_end, crate::proofs::Comparing::compared_all))]
 fn compare_with_all(rows: &[Row], subject: RowAt) -> Comparison
     ensures { result ≡ compared_with_all subject rows.now }
 {
@@ -98,7 +102,7 @@ fn compare_with_all(rows: &[Row], subject: RowAt) -> Comparison
 
 // Whether the rows so far obey the rules, that on the number of LinkIds apart, and how many are taken, are joined and
 // have a LinkId.
-#[derive(Drop)]
+#[derive(Clone, Copy)]
 struct Sums {
     sound: bool,
     legs: usize,
@@ -140,6 +144,7 @@ fn answer(sums: Sums) -> Counted
 }
 
 // The counts of the rows, once they are found sound.
+#[tactic(auto, using(crate::proofs::Summing::summing_end))]
 pub fn count(rows: &[Row]) -> Counted
     ensures { counted_answer result ≡ counts rows.now }
 {

@@ -5,7 +5,7 @@ use native.Mathlib.Numerals.{add-one}
 use native.Mathlib.Decide.{ℕ_discrete}
 use native.Mathlib.Omega.{arith}
 use mathlib.Core.Path.{◌≡◌, refl, sym, ap, ◌∙◌}
-use mathlib.Core.Bool.{Bool, true, false, not, and_false}
+use mathlib.Core.Bool.{Bool, true, false, not, and-false}
 use mathlib.Core.List.{List, [], ◌∷◌, ◌++◌, Memᴰ}
 use mathlib.Core.Option.{Option, none, some, map}
 use lib.Dec.{eqb}
@@ -201,7 +201,7 @@ apart_end {marks} {ns} e a = sym (rw e at a.differ)
 distinct_drop : (i : ℕ) (ns : List ℕ) → distinct eqb (drop i ns) ≡ false → distinct eqb ns ≡ false
 distinct_drop zero ns e = e
 distinct_drop (suc i) [] e = e
-distinct_drop (suc i) (n ∷ ns) e = rw (distinct_drop i ns e) (and_false (not (any (eqb n) ns)))
+distinct_drop (suc i) (n ∷ ns) e = rw (distinct_drop i ns e) (and-false (not (any (eqb n) ns)))
 
 -- numbers of which one stands further on again are not distinct
 pub repeated : {ns : List ℕ} {i n : ℕ} → Step ns i n → any (eqb n) (drop (i + 1) ns) ≡ true → false ≡ distinct eqb ns

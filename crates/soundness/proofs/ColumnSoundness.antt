@@ -1,7 +1,7 @@
 -- Soundness of rows by the columns that they are read into.
 use Prim.Native.Nat.{ℕ}
 use mathlib.Core.Path.{◌≡◌, refl, sym, ap, ◌∙◌}
-use mathlib.Core.Bool.{Bool, true, false, ◌&&◌, ◌||◌, not, and_false, and_assoc}
+use mathlib.Core.Bool.{Bool, true, false, ◌&&◌, ◌||◌, not, and-false, and_assoc}
 use mathlib.Core.List.{List, [], ◌∷◌}
 use mathlib.Core.Option.{Option, none, some, map}
 use lib.Dec.{eqb, leb}
@@ -95,7 +95,7 @@ partners_joined es =
     ∙ all_filter joined (partnered (filter joined es)) es (λ e u. calm e.leg e.connection u)
   where
     mute : (n p : ℕ) (a : Bool) (m : ℕ) (k : Connection) → is_joined k ≡ false → answers_to n p a (entry m k) ≡ false
-    mute n p a m (WithUser c) u = and_false (eqb p m)
+    mute n p a m (WithUser c) u = and-false (eqb p m)
     mute n p a m (WithPartner q b) u = absurd (true_not_false refl u)
 
     one : (n : ℕ) (k : Connection) → valid_partner es n k ≡ valid_partner (filter joined es) n k

@@ -2,9 +2,11 @@
 // An array of rows that is handed to a function is copied, so the rows are walked once, and what has to be compared
 // is gathered in columns of numbers: the legs, the references, the LinkIds, and of joined rows the leg, its partner
 // and whether it alerts. The columns are lent.
+#![tactic(auto)]
+
 ghost use Rattle.std.specs.Prelude.{◌≡◌, ◌≤◌, ◌<◌, eqb, length, take, drop};
 ghost use Rattle.octets.specs.Lists.{any, distinct};
-ghost use Rattle.board.specs.Soundness.{sound_rows, sound as soundBoard};
+ghost use Rattle.board.specs.Soundness.{sound_rows, sound as sound_board};
 ghost use Rattle.board.specs.Counts.{counts, counted_answer};
 ghost use Rattle.board.specs.Code.Tallies.{tally_of};
 ghost use Rattle.soundness.specs.Code.Columns.{joined_leg_at, any_answers, all_answered, Gathered};
@@ -137,7 +139,7 @@ pub fn add_up(rows: [Row; 64]) -> Tally
 
 // What the rows have to be compared by: each column holds as many numbers as its count says. `fit` says whether each
 // row obeys the rules by itself; where one does not, nothing is compared.
-#[derive(Drop)]
+#[derive(Clone, Copy)]
 struct Columns {
     fit: bool,
     taken: usize,
@@ -218,7 +220,7 @@ pub fn sound_rows(rows: [Row; 64]) -> bool
 }
 
 pub fn sound(board: Board) -> bool
-    ensures { result ≡ soundBoard board }
+    ensures { result ≡ sound_board board }
 {
     let rows = board.rows;
     let options = board.options;

@@ -4,9 +4,8 @@ use Prim.{tt}
 use Prim.Native.Nat.{ℕ}
 use mathlib.Core.Path.{◌≡◌}
 use mathlib.Core.List.{List}
-use base.Fml.{GName}
 use contract.Lifetimes.{Lfts}
-use Rattle.octets.proofs.Lent.{lent}
+use Rattle.octets.proofs.Lent.{lent_shared}
 use Rattle.subaddresses.specs.declared.LegComponent.{LegComponent}
 use Rattle.subaddresses.specs.SubaddressTransfer.{is_subaddress_transfer, says_transfer}
 use Rattle.subaddresses.proofs.read_leg_component.Reads as read-contract
@@ -14,8 +13,8 @@ use Rattle.subaddresses.proofs.read_leg_component.Reads as read-contract
 -- `read_leg_component` was lent octets, and returned r
 pub record ReadMet (s : List ℕ) (r : LegComponent) : Type 0 where
   pub lifetimes : Lfts 1
-  pub component_at_lem : (ℕ × ℕ) × GName
-  pub met : read-contract.Post lifetimes (lent component_at_lem s, tt) r (lent component_at_lem s, tt)
+  pub component_at : ℕ × ℕ
+  pub met : read-contract.Post lifetimes (lent_shared component_at s, tt) r (lent_shared component_at s, tt)
 
 pub read_promise : (s : List ℕ) (r : LegComponent) → ReadMet s r → says_transfer r ≡ is_subaddress_transfer s
 read_promise s r h = h.met

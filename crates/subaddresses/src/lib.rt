@@ -1,4 +1,6 @@
 // Subaddresses that joined parties send each other: which components carry one.
+#![tactic(auto)]
+
 ghost use Rattle.std.specs.Prelude.{◌≡◌};
 ghost use Rattle.elements.specs.Elements.{first_element};
 ghost use Rattle.subaddresses.specs.SubaddressTransfer.{is_subaddress, perhaps_odd_count, is_user_specified};
@@ -8,7 +10,7 @@ use component::arguments::{Arguments, read_arguments};
 use elements::{FirstElement, first_element};
 
 // What the component of a Leg facility is.
-#[derive(Drop)]
+#[derive(Clone, Copy)]
 pub enum LegComponent {
     SubaddressTransfer,
     Other,

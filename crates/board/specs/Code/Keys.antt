@@ -2,7 +2,6 @@
 use Rattle.std.specs.Prelude.{ℕ, Bool, false, ◌&&◌, not, List, eqb, ℤ}
 use Rattle.octets.specs.Lists.{any}
 use Rattle.octets.specs.declared.CallReference.{CallReference}
-use Rattle.octets.specs.declared.LinkId.{LinkId}
 use Rattle.board.specs.declared.Standing.{Standing}
 use Rattle.board.specs.declared.Standing.TheVariants.{Empty, Served, Joined}
 use Rattle.board.specs.declared.Row.{Row}

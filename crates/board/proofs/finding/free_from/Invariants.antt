@@ -1,0 +1,8 @@
+use Prim.Native.Nat.{◌≤◌, ◌-◌}
+use mathlib.Core.Path.{◌≡◌}
+use Rattle.board.specs.LinkIds.{most_link_ids, live, free_link_id}
+use Rattle.board.specs.Entries.{taken, calls}
+use Rattle.board.proofs.finding.free_from.Given as goal
+
+abbrev pub invariant-loop-k : goal.invariant-loop-k
+invariant-loop-k l = (l.k ≤ most_link_ids) × (free_link_id (most_link_ids - l.k) l.id.0 (live (calls (taken l.board.rows))) ≡ free_link_id most_link_ids l.initial.id.0 (live (calls (taken l.board.rows))))
