@@ -9,7 +9,7 @@ use lib.ListN.{length, take, drop}
 use lib.Seq.{take_at}
 use base.Fml.{GName}
 use contract.Lifetimes.{Lfts}
-use Rattle.octets.proofs.Lent.{lent}
+use Rattle.octets.proofs.Lent.{lent, lent_shared}
 use Rattle.octets.proofs.Lists.{is_true, is_not}
 use Rattle.board.specs.declared.Board.{Board}
 use Rattle.board.specs.declared.Made.{Made}
@@ -32,11 +32,11 @@ use Rattle.ect.proofs.step.Reads as step-contract
 -- the call of `step` on the board b met its contract
 pub record StepContractMet (b : Board) (c : StepCall) : Type 0 where
   pub lifetimes : Lfts 2
-  pub event_at : (ℕ × ℕ) × GName
+  pub event_at : ℕ × ℕ
   pub buffer_at : (ℕ × ℕ) × GName
   pub met :
-      step-contract.Post lifetimes (b, (lent event_at c.event, (lent buffer_at c.before, tt))) c.returned
-      (b, (lent event_at c.event, (lent buffer_at c.after, tt)))
+      step-contract.Post lifetimes (b, (lent_shared event_at c.event, (lent buffer_at c.before, tt))) c.returned
+      (b, (lent_shared event_at c.event, (lent buffer_at c.after, tt)))
 
 -- each call met the contract on the board that the last one returned. `step` is proved, so every run of calls gives a chain.
 unfoldable pub Chain : Board → List StepCall → Type 0

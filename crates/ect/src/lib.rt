@@ -1,4 +1,6 @@
 // The network side of Explicit Call Transfer for one access: one call for every event.
+#![tactic(auto)]
+
 ghost use Rattle.std.specs.Prelude.{◌≤◌, ◌≡◌, length};
 ghost use Rattle.octets.specs.Buffers.{front_written};
 ghost use Rattle.replies.specs.Code.Writing.{written};
@@ -12,13 +14,13 @@ use replies::Out;
 use soundness::sound;
 
 // Accepted, with the number of octets written; or refused.
-#[derive(Drop)]
+#[derive(Clone, Copy)]
 pub enum StepAnswer {
     Accepted(usize),
     Refused(Refusal),
 }
 
-#[derive(Drop)]
+#[derive(Clone, Copy)]
 pub struct Stepped {
     pub answer: StepAnswer,
     pub board: Board,

@@ -1,4 +1,6 @@
 // What an event comes to: whether it is refused, what it changes on the board, and the replies.
+#![tactic(auto)]
+
 ghost use Rattle.std.specs.Prelude.{◌≡◌};
 ghost use Rattle.board.specs.Making.{empty_row};
 ghost use Rattle.rules.specs.Checks.{Refuse, assigned_by};
@@ -27,14 +29,14 @@ mod facility;
 mod opening;
 mod passing;
 
-#[derive(Drop)]
+#[derive(Clone, Copy)]
 pub enum Acceptance {
     Accepted,
     Refused(Refusal),
 }
 
 // What changes on the board: nothing, a row is entered, or rows that are taken change.
-#[derive(Drop)]
+#[derive(Clone, Copy)]
 pub enum ChangeKind {
     None,
     Enter,
@@ -43,7 +45,7 @@ pub enum ChangeKind {
 
 // An effect has no board, so that the board is made once, from the change. The row is the one to enter: it stands
 // beside the change, as an enum holds no array, and is empty where none is entered.
-#[derive(Drop)]
+#[derive(Clone, Copy)]
 pub struct Effect {
     pub acceptance: Acceptance,
     pub change: ChangeKind,

@@ -1,4 +1,6 @@
 // The invokes that a terminal sends, written for test sets as the component reads them.
+#![tactic(auto)]
+
 ghost use Rattle.std.specs.Prelude.{◌+◌, ◌≤◌, length, ◌≡◌};
 ghost use Rattle.octets.specs.Numbers.{fewest};
 ghost use Rattle.octets.specs.Code.Putting.{Put};
@@ -11,7 +13,7 @@ use component::Operation;
 use octets::{IntegerOctets, InvokeIdentifier};
 
 // Written, with the number of octets; or refused.
-#[derive(Drop)]
+#[derive(Clone, Copy)]
 pub enum WriteAnswer {
     Written(usize),
     BufferTooSmall,

@@ -1,6 +1,8 @@
 // The text of a log: a line for each record, the last line, and the two lines that are always the same.
 // Each call writes its line at the front of the buffer lent and returns how many octets that is. Where the line
 // does not fit it returns 0 and leaves the buffer untouched.
+#![tactic(auto)]
+
 ghost use Rattle.std.specs.Prelude.{◌≡◌, [], ◌∷◌, ◌+◌, ◌/◌, ◌≤◌, ◌<◌, leb, length};
 ghost use Rattle.log_text.specs.Lines.{decimal, hex_digit, hex_octet, octets_text, spaced};
 ghost use Rattle.log_text.specs.Lines.{record_line, end_line, first_line, bad_options_line};

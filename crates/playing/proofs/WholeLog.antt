@@ -19,7 +19,7 @@ use Rattle.playing.specs.declared.Pause.TheVariants.{MoreInput, FullOutput, End}
 use Rattle.playing.specs.declared.Played.{Played}
 use Rattle.playing.specs.Log.{judged, stops_reading, largest_number, LogEnd, ended, with_text, records_end, log_end}
 use Rattle.playing.specs.Playing.{front_length, piece_record, piece_line, longest_line, pause_at_end, Playing, pausing, with_record, play_from, playing}
-use Rattle.octets.proofs.Lent.{lent}
+use Rattle.octets.proofs.Lent.{lent, lent_shared}
 use Rattle.playing.proofs.PlayingLaws.{some_taken}
 use Rattle.playing.proofs.play.Reads as play-contract
 
@@ -152,11 +152,11 @@ piece_of_log (suc k) b n (o ∷ os) later last room h z =
 -- a call of `play` that met its contract
 pub record PlayContractMet (b : Board) (n : ℕ) (piece : List ℕ) (last : Bool) (before after : List ℕ) (r : Played) : Type 0 where
   pub lifetimes : Lfts 2
-  pub piece_at : (ℕ × ℕ) × GName
+  pub piece_at : ℕ × ℕ
   pub buffer_at : (ℕ × ℕ) × GName
   pub met :
-      play-contract.Post lifetimes (b, (n, (lent piece_at piece, (last, (lent buffer_at before, tt))))) r
-      (b, (n, (lent piece_at piece, (last, (lent buffer_at after, tt)))))
+      play-contract.Post lifetimes (b, (n, (lent_shared piece_at piece, (last, (lent buffer_at before, tt))))) r
+      (b, (n, (lent_shared piece_at piece, (last, (lent buffer_at after, tt)))))
 
 -- calls of `play` on what is left of a log, until one ends: each gets the board and the number that the last one returned, and a piece of what is not read yet,
 -- as long as it likes and told to be the last only where it is. Their text is what they leave in the front of their buffers.

@@ -1,8 +1,10 @@
 // Playing the records of a piece of a log.
+#![tactic(auto)]
+
 mod records;
 
 ghost use Rattle.std.specs.Prelude.{◌≡◌, ◌≤◌, ◌<◌, length, get_or};
-ghost use Rattle.board.specs.Soundness.{sound as soundBoard};
+ghost use Rattle.board.specs.Soundness.{sound as sound_board};
 ghost use Rattle.playing.specs.Log.{stops_reading};
 ghost use Rattle.playing.specs.Playing.{PlaysRecord, front_length, pause_at_end, paused_at, Plays};
 
@@ -17,7 +19,7 @@ const LONGEST_LINE: usize = 512;
 
 // Why playing pauses: a record goes on behind the piece, the text has no room for another line, or nothing more is
 // read.
-#[derive(Drop)]
+#[derive(Clone, Copy)]
 pub enum Pause {
     MoreInput,
     FullOutput,
@@ -26,7 +28,7 @@ pub enum Pause {
 
 // The board and the number of the last record after a piece, how many of its octets were played, and how many octets
 // of text were written.
-#[derive(Drop)]
+#[derive(Clone, Copy)]
 pub struct Played {
     pub board: Board,
     pub number: u64,
@@ -36,7 +38,7 @@ pub struct Played {
 }
 
 // What one record led to, and how many octets its line has.
-#[derive(Drop)]
+#[derive(Clone, Copy)]
 pub struct PlayedRecord {
     pub board: Board,
     pub returned: u8,
@@ -128,7 +130,7 @@ fn play_tested(
     is_last: bool,
     out: &mut [u8],
 ) -> Played
-    requires { is_sound ≡ soundBoard start }
+    requires { is_sound ≡ sound_board start }
     ensures { Plays start before piece.now is_last out.old out.new result }
 {
     let mut board = start;

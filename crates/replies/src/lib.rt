@@ -1,4 +1,6 @@
 // The reply records of one event: built by value, so that a refusal has written nothing.
+#![tactic(auto)]
+
 ghost use Rattle.std.specs.Prelude.{◌≡◌, [], ◌∷◌, ◌+◌, ◌≤◌, length};
 ghost use Rattle.octets.specs.Numbers.{four};
 ghost use Rattle.rules.specs.Replies.{Reply, Tell, Drop, Gone, PassOn, mark_only, number_as_told, told};
@@ -19,14 +21,14 @@ const TRANSFERRED_ALERTING: u8 = 0xe9;
 const TRANSFERRED_ACTIVE: u8 = 0xea;
 
 // The octets written so far: the first `len`.
-#[derive(Drop)]
+#[derive(Clone, Copy)]
 pub struct Out {
     pub octets: [u8; 128],
     pub len: usize,
 }
 
 // A far party of a transfer: its call with the served user, its leg, whether that alerts, and its number.
-#[derive(Drop)]
+#[derive(Clone, Copy)]
 pub struct FarParty {
     pub reference: CallReference,
     pub leg: u32,

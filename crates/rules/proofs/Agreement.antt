@@ -22,8 +22,7 @@ use Rattle.rules.specs.Checks.{BoardChange, decide, Decision, returned_by, chang
 use Rattle.events.specs.Refusals.{refusal_number}
 use Rattle.events.specs.Records.{body_length}
 use Rattle.events.specs.EventRecords.{request, ranged, Request, in_range, Malformed, sized, open_body, progress_body, field, hold_body, Release, facility_body, Answer, leg_facility_body}
-use Rattle.rules.specs.History.{returns, Event, stepped, board_at, book_at, book_returns}
-use Rattle.rules.specs.Replies.{octets}
+use Rattle.rules.specs.History.{returns, Event, stepped, board_at, book_at, book_returns, booked}
 use Rattle.rules.specs.Step.{decision, board_after, rows_after, Outcome, refused, step, step_tested, done}
 use Rattle.events.specs.declared.Refusal.TheVariants.{FieldOutOfRange, WrongLength, BufferTooSmall, UnsoundBoard}
 use Rattle.octets.proofs.Lists.{Perm, both, length_perm, p_trans, p_sym, p_nil}
@@ -163,10 +162,10 @@ begun s a = go (valid_options (options s a)) refl
 
 pub played_together : {b : Board} {k : Book} → Together b k → (list : List Event) → Together (board_at b list) (book_at k list)
 unfolding board_at book_at book_step
-played_together t [] = t
-played_together t (e ∷ es) = played_together (next t e).together es
+played_together {b} {k} t [] = t
+played_together {b} {k} t (e ∷ es) = played_together {b = (stepped b e).board} {k = booked k e} (next t e).together es
 
 pub same_returns : {b : Board} {k : Book} → Together b k → (list : List Event) → returns b list ≡ book_returns k list
 unfolding returns book_returns book_step
-same_returns t [] = refl
-same_returns t (e ∷ es) = ap₂ (λ (c : ℕ) (cs : List ℕ). c ∷ cs) (next t e).same (same_returns (next t e).together es)
+same_returns {b} {k} t [] = refl
+same_returns {b} {k} t (e ∷ es) = ap₂ (λ (c : ℕ) (cs : List ℕ). c ∷ cs) (next t e).same (same_returns {b = (stepped b e).board} {k = booked k e} (next t e).together es)

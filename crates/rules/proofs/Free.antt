@@ -2,8 +2,7 @@
 use Prim.Native.Nat.{◌+◌, ◌-◌, ◌<◌, ◌≤◌, suc, ℕ, zero, zero-le, suc-le-suc}
 use native.Mathlib.Nat.{le_refl, le_step, le_trans}
 use native.Mathlib.Omega.{arith}
-use borrow.Author.Tests.{lt-leb}
-use mathlib.Core.Path.{◌∙◌, refl, ap, ◌≡◌, sym, subst⁻¹}
+use mathlib.Core.Path.{◌∙◌, refl, ap, ◌≡◌, sym}
 use mathlib.Core.Logic.{◌⊎◌, inr, inl}
 use mathlib.Core.Bool.{◌&&◌, ◌||◌, false, true, not, Bool, cond}
 use mathlib.Core.List.{◌∷◌, List, []}
@@ -11,12 +10,7 @@ use mathlib.Core.Option.{none, some, Option}
 use lib.Dec.{eqb}
 use lib.ListN.{length}
 use lib.IntN.{ℤ, pos, negsuc}
-use Rattle.board.specs.Entries.{taken, link_ids, calls}
-use Rattle.board.specs.LinkIds.{free_link_id, unless_live, live, most_link_ids}
-use Rattle.board.specs.declared.Board.{Board}
-use Rattle.rules.proofs.Kept.{live_length, first_not_live}
-use Rattle.rules.specs.LinkIdGiven.{LinkIdGiven}
-use Rattle.rules.specs.Serving.{error, assign}
+use Rattle.board.specs.LinkIds.{free_link_id, unless_live, most_link_ids}
 use Rattle.octets.proofs.Lists.{true_not_false, eqb_of, eqb_eq, test, neither, both, any_has, any_of, mem_filter, or_false, left, right, is_not}
 use Rattle.octets.proofs.SameInteger.{same_integer_eq}
 use Rattle.octets.specs.Lists.{all, any, distinct, filter, cons_if}
@@ -167,16 +161,5 @@ found n z used top h k = go (free_link_id n z used) refl
     go (some y) e = (y, e)
 
 module _ (z : ℤ) (used : List ℤ) (h : InInt16Range z) (few : length used < most_link_ids) where
-  one_free : (y : ℤ) × (free_link_id most_link_ids z used ≡ some y)
+  pub one_free : (y : ℤ) × (free_link_id most_link_ids z used ≡ some y)
   one_free = found most_link_ids z used (le_refl most_link_ids) h few
-
-  gives : LinkIdGiven z used
-  gives = record {
-    value = one_free.0;
-    first = first_not_live most_link_ids z used one_free.1;
-    given = λ i. ap (λ (b : Bool). cond b (error i 11) (assign i (free_link_id most_link_ids z used))) (lt-leb most_link_ids (length used) few) ∙ ap (assign i) one_free.1;
-  }
-
--- on every board, sound or not, while fewer than 16 LinkIds are live a call that has none is given the first value that is not live
-pub link_id_given : (b : Board) → InInt16Range b.candidate.0 → link_ids (taken b.rows) < most_link_ids → LinkIdGiven b.candidate.0 (live (calls (taken b.rows)))
-link_id_given b h few = gives b.candidate.0 (live (calls (taken b.rows))) h (subst⁻¹ (λ (n : ℕ). n < most_link_ids) (live_length (taken b.rows)) few)

@@ -6,6 +6,7 @@ pub mod Kept
 pub mod Rows
 pub mod Agreement
 pub mod Free
+pub mod LinkIdGiven
 pub mod Presence
 pub mod Partner
 pub mod Errors

@@ -27,7 +27,7 @@ use Rattle.rules.proofs.Presence.{stay_leg, opens_at, ends_at, seen_next, togeth
 use Rattle.rules.specs.Book.{Book, book_decision, map_connection, change_call, end_alerting, join_legs, changed_entries, entries_after, book_step, book_after, book_rules}
 use Rattle.rules.specs.Checks.{BoardChange, Enter, Apply, Decision, Refuse, opened, release_of, returned_by, change_of}
 use Rattle.events.specs.EventRecords.{Request, request}
-use Rattle.rules.specs.History.{Event, booked, book_at, HasRow, Partners, joins_to, joined_by, opens_leg, transfer_of}
+use Rattle.rules.specs.History.{Event, booked, book_at, HasRow, Partners, joins_to, joined_by, opens_leg, transfer_of, stepped}
 use Rattle.octets.proofs.Lists.{mem_map, mem_filter, eqb_eq, eqb_self, eqb_sym, any_map, right, left, small_one, mem_perm, p_sym, any_of, test, true_not_false, or_right, both, is_true}
 use Rattle.octets.specs.Lists.{filter, any}
 use Rattle.events.specs.declared.Refusal.TheVariants as refusal
@@ -259,10 +259,10 @@ still_there {b} {k} t e l h n = seen_next k (together_sound t) e l ∙ or_right 
 
 pub joined_stays : {b : Board} {k : Book} → Together b k → (list : List Event) (l m : ℕ) → Shape k.entries l (some m) → Unended k list l → Shape (book_at k list).entries l (some m)
 unfolding book_at book_step
-joined_stays t [] l m h f = h
+joined_stays {b} {k} t [] l m h f = h
 joined_stays {b} {k} t (e ∷ es) l m h f =
     let r = unended_head k e es l f in
-    joined_stays (next t e).together es l m
+    joined_stays {b = (stepped b e).board} {k = booked k e} (next t e).together es l m
     (subst (λ (o : Option ℕ). Shape (booked k e).entries l o) (fixed_next k (together_sound t) e l m h)
     (shaped_next k e l (some m) (λ _. h) (still_there t e l (shape_there k.entries l (some m) h) r.0)))
     r.1
@@ -270,10 +270,10 @@ joined_stays {b} {k} t (e ∷ es) l m h f =
 pub call_stays : {b : Board} {k : Book} → Together b k → (list : List Event) (l : ℕ) → Shape k.entries l none → Unended k list l →
     ((mid rest : List Event) (e : Event) → list ≡ mid ++ (e ∷ rest) → transfer_of (book_at k mid) e l ≡ none) → Shape (book_at k list).entries l none
 unfolding book_at book_step transfer_of
-call_stays t [] l h f g = h
+call_stays {b} {k} t [] l h f g = h
 call_stays {b} {k} t (e ∷ es) l h f g =
     let r = unended_head k e es l f in
-    call_stays (next t e).together es l
+    call_stays {b = (stepped b e).board} {k = booked k e} (next t e).together es l
     (subst (λ (o : Option ℕ). Shape (booked k e).entries l o) (joins_none l (change_of (book_decision k e.octets e.room)) (g [] es e refl))
     (shaped_next k e l none (λ _. h) (still_there t e l (shape_there k.entries l none h) r.0)))
     r.1
@@ -281,10 +281,10 @@ call_stays {b} {k} t (e ∷ es) l h f g =
 
 pub alive_stays : {b : Board} {k : Book} → Together b k → (list : List Event) (l : ℕ) → any (has_leg l) k.entries ≡ true → Unended k list l → any (has_leg l) (book_at k list).entries ≡ true
 unfolding book_at book_step
-alive_stays t [] l h f = h
+alive_stays {b} {k} t [] l h f = h
 alive_stays {b} {k} t (e ∷ es) l h f =
     let r = unended_head k e es l f in
-    alive_stays (next t e).together es l (still_there t e l h r.0) r.1
+    alive_stays {b = (stepped b e).board} {k = booked k e} (next t e).together es l (still_there t e l h r.0) r.1
 
 pub book_at_append : (k : Book) (xs ys : List Event) → book_at k (xs ++ ys) ≡ book_at (book_at k xs) ys
 unfolding book_at

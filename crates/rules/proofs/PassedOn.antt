@@ -1,16 +1,16 @@
 -- A Leg facility: accepted exactly when the checks are passed, then passed on to the partner; the board stays, and nobody is moved.
-use Prim.Native.Nat.{ℕ, ◌<◌, ◌≤◌}
+use Prim.Native.Nat.{ℕ, ◌<◌}
 use native.Mathlib.Omega.{arith}
 use borrow.Author.Tests.{ltb-true, ltb-false, eqb-true, eqb-false, eq-eqb}
-use mathlib.Core.Path.{◌≡◌, refl, sym, ap, ◌∙◌, subst}
-use mathlib.Core.Bool.{Bool, true, false, not, ◌&&◌, cond}
+use mathlib.Core.Path.{◌≡◌, refl, sym, ap, ◌∙◌}
+use mathlib.Core.Bool.{Bool, true, false, not, cond}
 use mathlib.Core.List.{List, [], ◌∷◌, ◌++◌, append-nil}
 use mathlib.Core.Option.{Option, none, some}
 use lib.Dec.{eqb, leb, ltb, T}
 use lib.Seq.{drop-cons}
-use lib.ListN.{length, take, drop, get_or, length-drop}
-use Rattle.octets.proofs.Lists.{true_not_false, left, right, is_true, from_true, is_not, find_mem, find_none, find_filter, head_of, small_one, mem_filter, any_of, both, eqb_eq}
-use Rattle.octets.specs.Lists.{any, all, filter, find}
+use lib.ListN.{length, drop, length-drop}
+use Rattle.octets.proofs.Lists.{true_not_false, right, is_true, from_true, is_not, find_mem, find_filter, head_of, small_one, mem_filter, any_of, both, eqb_eq}
+use Rattle.octets.specs.Lists.{all, filter}
 use Rattle.octets.specs.Numbers.{four}
 use Rattle.subaddresses.specs.SubaddressTransfer.{is_subaddress_transfer}
 use Rattle.board.proofs.SoundEntries.{Sound, sound_of, legs_one}
@@ -27,9 +27,9 @@ use Rattle.events.specs.declared.Refusal.TheVariants as refusal
 use Rattle.events.specs.Refusals.{refusal_number}
 use Rattle.events.specs.EventRecords.{Request, Malformed, LegFacility, request, in_range, valid_component}
 use Rattle.rules.specs.Book.{Book, book_step, book_after, book_decision, book_rules, entries_after, candidate_moves}
-use Rattle.rules.specs.Checks.{BoardChange, Decision, Refuse, Accept, decide, decide_passing, decide_leg_facility, entry_at, change_of}
-use Rattle.rules.specs.History.{Event, opens, ends, opens_leg, ends_leg, transfer_of, joined_by, on_board, HasRow}
-use Rattle.rules.specs.PassedOn.{leg_in, count_in, component_in, Judged, Passable, PassedOn, MovesNobody}
+use Rattle.rules.specs.Checks.{BoardChange, Refuse, Accept, decide, decide_passing, decide_leg_facility, entry_at, change_of}
+use Rattle.rules.specs.History.{opens, ends, opens_leg, ends_leg, transfer_of, joined_by, on_board, HasRow}
+use Rattle.rules.specs.PassedOn.{leg_in, count_in, component_in, Judged, PassedOn, MovesNobody}
 use Rattle.rules.specs.Replies.{octets, passed_on_record, number_at}
 use Rattle.rules.specs.Step.{Outcome, step, step_tested, decision, refused, done, board_after, rows_after, candidate_after, replies}
 

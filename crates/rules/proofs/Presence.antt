@@ -23,7 +23,7 @@ use Rattle.rules.specs.Book.{Book, map_connection, change_call, join_legs, entri
 use Rattle.rules.specs.Checks.{Decision, returned_by, change_of, Refuse}
 use Rattle.events.specs.Refusals.{refusal_number}
 use Rattle.events.specs.EventRecords.{request, Request}
-use Rattle.rules.specs.History.{Event, accepts, opens_leg, ends_leg, book_at, booked, joined_with}
+use Rattle.rules.specs.History.{Event, accepts, opens_leg, ends_leg, book_at, booked, joined_with, stepped}
 use Rattle.events.specs.declared.Refusal.{Refusal}
 use Rattle.octets.proofs.Lists.{same_tests, any_has, filter_mem, both, any_of, eqb_eq, left, mem_filter, right, true_not_false, any_map, or_cases, from_true, or_right, is_true, or_left}
 use Rattle.octets.specs.Lists.{any, filter}
@@ -136,8 +136,8 @@ together_sound t = sound_perm t.order t.entries_are
 
 pub lives_is : {b : Board} {k : Book} → Together b k → (now : Bool) (list : List Event) (l : ℕ) → any (has_leg l) k.entries ≡ now → any (has_leg l) (book_at k list).entries ≡ lives k now list l
 unfolding book_at lives book_step
-lives_is t now [] l h = h
-lives_is {b} {k} t now (e ∷ es) l h = lives_is (next t e).together _ es l (seen_next k (together_sound t) e l ∙ ap (λ (x : Bool). opens_at k e l || (x && not (ends_at k e l))) h)
+lives_is {b} {k} t now [] l h = h
+lives_is {b} {k} t now (e ∷ es) l h = lives_is {b = (stepped b e).board} {k = booked k e} (next t e).together _ es l (seen_next k (together_sound t) e l ∙ ap (λ (x : Bool). opens_at k e l || (x && not (ends_at k e l))) h)
 
 -- ---- the same by the split of the list
 

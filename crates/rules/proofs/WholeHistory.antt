@@ -22,7 +22,6 @@ use Rattle.rules.specs.Book.{Book, book_after, entries_after, candidate_moves, b
 use Rattle.rules.specs.Checks.{Decision, returned_by, change_of, Refuse, Accept}
 use Rattle.events.specs.EventRecords.{request}
 use Rattle.rules.specs.History.{history, booked, Event, accepts, stepped, book_at, board_at, book_returns, accepted, opens, ends, Lives, ends_leg, Agree, transfer_of, joined_by, on_board, Partners, HasRow, WholeHistory, Demand3Of, Demand3}
-use Rattle.rules.specs.Replies.{octets}
 use Rattle.rules.specs.Step.{Outcome}
 use Rattle.octets.proofs.Lists.{true_not_false, both, left, right, from_true, is_true, mem_perm, p_sym, length_perm, or_left, any_perm, is_not}
 use Rattle.octets.specs.Lists.{all, any}
@@ -57,8 +56,8 @@ history_book k (e ∷ es) = go (accepts k e) refl (history_book (booked k e) es)
 
 history_board : {b : Board} {k : Book} → Together b k → (list : List Event) → board_at b (history k list) ≡ board_at b list
 unfolding board_at history
-history_board t [] = refl
-history_board {b} {k} t (e ∷ es) = go (accepts k e) refl (history_board (next_booked t e) es)
+history_board {b} {k} t [] = refl
+history_board {b} {k} t (e ∷ es) = go (accepts k e) refl (history_board {b = (stepped b e).board} {k = booked k e} (next_booked t e) es)
   where
     go : (x : Bool) → accepts k e ≡ x → board_at (stepped b e).board (history (booked k e) es) ≡ board_at (stepped b e).board es →
         board_at b (cond x (e ∷ history (booked k e) es) (history (booked k e) es)) ≡ board_at (stepped b e).board es

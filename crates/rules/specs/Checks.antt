@@ -191,8 +191,8 @@ decide_leg_facility n c (some e) = decide_passing n c e.connection
 
 -- "6: Open: leg on the board"; "7: Open: reference in use"; "8: Open: no empty row"
 abbrev pub decide_open : Bool → Bool → Bool → Decision → Decision
-decide_open legThere referenceThere full d =
-    cond legThere (Refuse refusal.LegOnBoard) (cond referenceThere (Refuse refusal.ReferenceInUse) (cond full (Refuse refusal.NoEmptyRow) d))
+decide_open leg_there reference_there full d =
+    cond leg_there (Refuse refusal.LegOnBoard) (cond reference_there (Refuse refusal.ReferenceInUse) (cond full (Refuse refusal.NoEmptyRow) d))
 
 -- a far party with its new call and its number
 abbrev pub opening : ℕ → ℕ → Direction → PartyNumber → Decision

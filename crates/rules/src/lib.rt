@@ -1,11 +1,13 @@
 // The rules of document 01 as definitions (specs/) and the theorems about them (proofs/).
 // The code that is proved equal to them is in the crate ect.
+#![tactic(auto)]
+
 use board::Party;
 use component::Answer;
 use octets::{IntegerOctets, LinkId};
 
 // What a component comes to.
-#[derive(Drop)]
+#[derive(Clone, Copy)]
 pub enum Service {
     // Nothing is written.
     Silent,
@@ -22,7 +24,7 @@ pub enum Service {
 }
 
 // A number as it is told: its mark, and its digits only where the mark is 1.
-#[derive(Drop)]
+#[derive(Clone, Copy)]
 pub struct TellNumber {
     pub mark: u8,
     pub count: u8,

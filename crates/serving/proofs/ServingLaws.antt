@@ -9,7 +9,6 @@ use mathlib.Core.Option.{none, Option, some}
 use lib.Dec.{leb}
 use lib.ListN.{length}
 use lib.IntN.{ℤ}
-use Rattle.board.specs.Counts.{links}
 use Rattle.board.specs.Entries.{calls, taken}
 use Rattle.board.specs.LinkIds.{most_link_ids, free_link_id, optional_link_id, live}
 use Rattle.board.specs.Code.Tallies.{tally_of}

@@ -1,4 +1,6 @@
 // Serving what a component asks for, on the calls of the board.
+#![tactic(auto)]
+
 ghost use Rattle.std.specs.Prelude.{◌≡◌, length};
 ghost use Rattle.octets.specs.Lists.{only};
 ghost use Rattle.rules.specs.Serving.{error, new_link_id, link_id_request};

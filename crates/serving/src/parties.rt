@@ -1,6 +1,6 @@
 // The far parties that events and components name, as the rules find them among the rows taken.
 ghost use Rattle.std.specs.Prelude.{◌≡◌};
-ghost use Rattle.octets.specs.Lists.{find as findIn};
+ghost use Rattle.octets.specs.Lists.{find as find_in};
 ghost use Rattle.board.specs.Entries.{row_entry, found_entry, found_party, has_party_link_id, row_party};
 ghost use Rattle.rules.specs.Checks.{named as named_in, entry_at};
 ghost use Rattle.serving.specs.Code.Parties.{entries_of, parties_of};
@@ -48,7 +48,7 @@ pub fn named(board: Board, reference: CallReference) -> FoundParty
 
 // The party whose call has the LinkId.
 pub fn linked(board: Board, id: LinkId) -> FoundParty
-    ensures { result ≡ found_party (findIn (has_party_link_id id.0) (parties_of board)) }
+    ensures { result ≡ found_party (find_in (has_party_link_id id.0) (parties_of board)) }
 {
     party_of(find_row(board, Key::LinkId(id)))
 }

@@ -1,8 +1,10 @@
 // The pair rule as a table, 32 call situations by 32.
+#![tactic(auto)]
+
 ghost use Rattle.std.specs.Prelude.{◌≡◌};
 ghost use Rattle.board.specs.States.{auxiliary_number, direction_number};
 ghost use Rattle.rules.specs.Pairing.{verdict};
-ghost use Rattle.verdicts.specs.Situations.{state_place, situation as situationOf};
+ghost use Rattle.verdicts.specs.Situations.{state_place, situation as situation_of};
 ghost use Rattle.verdicts.specs.Tables.{table_of, verdict_in};
 
 use board::{AuxiliaryState, Call, CallState, Direction};
@@ -44,7 +46,7 @@ fn direction_number(direction: Direction) -> usize
 
 // The number of a call's situation, 0 to 31.
 pub fn situation(call: Call) -> usize
-    ensures { result ≡ situationOf call }
+    ensures { result ≡ situation_of call }
 {
     let state = call.state;
     let auxiliary = call.auxiliary;

@@ -1,0 +1,11 @@
+use Prim.Native.Nat.{◌+◌}
+use mathlib.Core.Path.{◌≡◌}
+use lib.ListN.{length}
+use Rattle.log_text.specs.Lines.{decimal}
+use Rattle.log_text.proofs.decimal_length.Given as goal
+
+abbrev pub invariant-loop-rest : goal.invariant-loop-rest
+invariant-loop-rest l = l.digits + length (decimal l.rest) ≡ length (decimal l.n) + 1
+
+abbrev pub decreases-loop-rest : goal.decreases-loop-rest
+decreases-loop-rest l = l.rest
