@@ -1,23 +1,29 @@
 // Holds the component to the published codings of a list on standard input: each is read, or written, and printed as
 // the component has it. The list says how its lines are written.
-ghost use Rattle.std.specs.Prelude.{◌+◌, ◌≤◌, length};
+#![tactic(auto)]
 
-use libc::{STDIN_FILENO, STDOUT_FILENO};
+ghost use Rattle.std.specs.Prelude.{◌+◌, ◌≤◌, length, IfOk};
+
+use std::io;
+use std::io::Read;
 use text::{Text, answered, is_text, print_text, seen, written};
 use words::{Answered, Invoked, answer, begins, invoke, octets};
 
 mod text;
 mod words;
 
-fn print(words: &[u8]) {
-    io::write_all(STDOUT_FILENO, words);
+// What a list has room in; one that fills it is refused.
+const LONGEST_LIST: usize = 65536;
+
+fn print(rt: &impl Print, words: &[u8]) -> io::Result<()> {
+    rt.write_all(words)
 }
 
 // A line, after what is wrong with it.
-fn complain(words: &[u8], line: &[u8]) {
-    print(words);
-    print(line);
-    print(b"\n");
+fn complain(rt: &impl Print, words: &str, line: &[u8]) -> io::Result<()> {
+    rt.print(words)?;
+    print(rt, line)?;
+    print(rt, b"\n")
 }
 
 // The first place of an octet from a place on, or the end where there is none.
@@ -25,66 +31,60 @@ fn find(octet: u8, from: usize, text: &[u8]) -> usize
     requires { from ≤ length text.now }
     ensures { (from ≤ result) × (result ≤ length text.now) }
 {
-    let mut i = from;
-    while i < text.len() {
+    for i in from..text.len() {
         if text[i] == octet {
             return i;
         }
-        i += 1;
     }
-    i
+    text.len()
 }
 
 // Prints a coding as the component has it, after the list's two fields where they differ.
-fn compare(coding: Text, fields: &[u8]) {
+fn compare(rt: &impl Print, coding: Text, fields: &[u8]) -> io::Result<()> {
     if !is_text(coding, fields) {
-        complain(b"the list has ", fields);
+        complain(rt, "the list has ", fields)?;
     }
-    print_text(coding);
-    print(b"\n");
+    print_text(rt, coding)?;
+    print(rt, b"\n")
 }
 
 // A component that is read, or an answer or an invoke that is written: the octets as the list has them, what it says
 // that they are, and both as they stand there.
-fn coding(hex: &[u8], words: &[u8], fields: &[u8]) {
+fn coding(rt: &impl Print, hex: &[u8], words: &[u8], fields: &[u8]) -> io::Result<()> {
     if begins(words, b"answer ") {
-        match answer(words) {
-            Answered::Answer(a) => compare(answered(a), fields),
-            Answered::Unknown => complain(b"no such answer: ", fields),
-        }
-        return;
+        return match answer(words) {
+            Answered::Answer(a) => compare(rt, answered(a), fields),
+            Answered::Unknown => complain(rt, "no such answer: ", fields),
+        };
     }
     if begins(words, b"written ") {
-        match invoke(words) {
-            Invoked::Invoke(i, asked) => compare(written(i, asked), fields),
-            Invoked::Unknown => complain(b"no such invoke: ", fields),
-        }
-        return;
+        return match invoke(words) {
+            Invoked::Invoke(i, asked) => compare(rt, written(i, asked), fields),
+            Invoked::Unknown => complain(rt, "no such invoke: ", fields),
+        };
     }
-    compare(seen(octets(hex)), fields);
+    compare(rt, seen(octets(hex)), fields)
 }
 
 // A line that is no comment: three fields, parted by a semicolon between spaces.
-fn fields(line: &[u8]) {
+fn fields(rt: &impl Print, line: &[u8]) -> io::Result<()> {
     let first = find(b';', 0, line);
     if line.len() - first < 2 {
-        complain(b"not three fields: ", line);
-        return;
+        return complain(rt, "not three fields: ", line);
     }
     let second = find(b';', first + 2, line);
     if second == line.len() {
-        complain(b"not three fields: ", line);
-        return;
+        return complain(rt, "not three fields: ", line);
     }
     if line[second - 1] != b' ' {
-        complain(b"not three fields: ", line);
-        return;
+        return complain(rt, "not three fields: ", line);
     }
     coding(
+        rt,
         &line[0..first],
         &line[first + 2..second],
         &line[0..second - 1],
-    );
+    )
 }
 
 // How many codings a line has: one, or none where it is empty or a comment.
@@ -97,32 +97,51 @@ fn codings_in(line: &[u8]) -> usize
     if line[0] == b'#' {
         return 0;
     }
-    fields(line);
     1
 }
 
-// The number of codings. The last line may lack its line feed.
-fn lines(list: &[u8]) -> usize {
+// Prints the codings of a list, and returns their number. The last line may lack its line feed.
+fn lines(rt: &impl Print, list: &[u8]) -> io::Result<usize> {
     let mut codings = 0;
     let mut from = 0;
     while from < list.len() {
         let to = find(b'\n', from, list);
-        codings += codings_in(&list[from..to]);
+        let line = &list[from..to];
+        let here = codings_in(line);
+        codings += here;
+        if here > 0 {
+            fields(rt, line)?;
+        }
         if to == list.len() {
-            return codings;
+            return Ok(codings);
         }
         from = to + 1;
     }
-    codings
+    Ok(codings)
 }
 
-fn main() {
-    let mut list = io::large_buffer();
-    let n = io::read_full(STDIN_FILENO, &mut list);
-    if n == list.len() {
-        print(b"the list does not fit\n");
-        return;
+// Reads the list until it ends or the buffer is full, and returns how many octets it has.
+fn read_list(rt: &impl Input, list: &mut [u8]) -> io::Result<usize>
+    ensures { IfOk result (λ n. n ≤ length list.new) }
+{
+    let mut reader = rt.reader();
+    let mut held = 0;
+    while held < list.len() {
+        let got = reader.read(&mut list[held..])?;
+        if got == 0 {
+            return Ok(held);
+        }
+        held += got;
     }
-    io::print_decimal(STDOUT_FILENO, lines(&list[..n]) as u64);
-    print(b" codings\n");
+    Ok(held)
+}
+
+fn main(rt: HostRuntime) -> io::Result<()> {
+    let mut list = [0u8; LONGEST_LIST];
+    let n = read_list(&rt, &mut list)?;
+    if n == list.len() {
+        return print(&rt, b"the list does not fit\n");
+    }
+    let codings = lines(&rt, &list[..n])?;
+    println!(rt; "{codings} codings")
 }

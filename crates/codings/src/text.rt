@@ -3,11 +3,12 @@ ghost use Rattle.std.specs.Prelude.{◌≤◌};
 
 use component::{Answer, Component, Operation, Reading, Reject};
 use invokes::{WriteAnswer, write_invoke};
-use libc::STDOUT_FILENO;
 use octets::{Integer, IntegerOctets, InvokeIdentifier};
+use std::fmt::Write;
+use std::{fmt, io};
 
 // Text of up to 128 octets, which is more than any coding takes; what is more is left out.
-#[derive(Drop)]
+#[derive(Clone, Copy)]
 pub struct Text {
     octets: [u8; 128],
     len: usize,
@@ -34,35 +35,29 @@ impl Text {
 
     fn words(self, words: &[u8]) -> Text {
         let mut text = self;
-        let mut i = 0;
-        while i < words.len() {
-            text = text.push(words[i]);
-            i += 1;
+        for octet in words {
+            text = text.push(*octet);
         }
         text
     }
 
     fn decimal(self, n: u16) -> Text {
-        let mut digits = [0u8; 20];
-        let k = io::decimal(n as u64, &mut digits);
-        self.words(&digits[..k])
+        let mut text = self;
+        let _ = write!(text, "{n}");
+        text
     }
 
     fn hex(self, octet: u8) -> Text {
-        let mut digits = [0u8; 16];
-        let k = io::hex(octet as u64, 2, &mut digits);
-        self.words(&digits[..k])
+        let mut text = self;
+        let _ = write!(text, "{octet:02x}");
+        text
     }
 
     // The first n octets, which are those that were written.
     fn front(self, n: usize, octets: &[u8]) -> Text {
         let mut text = self;
-        let mut i = 0;
-        while i < n {
-            if i < octets.len() {
-                text = text.hex(octets[i]);
-            }
-            i += 1;
+        for octet in octets.iter().take(n) {
+            text = text.hex(*octet);
         }
         text
     }
@@ -140,6 +135,14 @@ impl Text {
     }
 }
 
+// What is formatted goes in as it comes. This never fails: what does not fit is left out.
+impl Write for Text {
+    fn write_str(&mut self, s: &str) -> fmt::Result {
+        *self = self.words(s.as_bytes());
+        Ok(())
+    }
+}
+
 fn read_front(octets: [u8; 32], n: usize) -> Reading
     requires { n ≤ 32 }
 {
@@ -181,26 +184,25 @@ pub fn is_text(text: Text, s: &[u8]) -> bool {
     if text.len != s.len() {
         return false;
     }
-    let mut i = 0;
-    while i < s.len() {
+    for (i, octet) in s.iter().enumerate() {
         if i >= 128 {
             return false;
         }
-        if text.octets[i] != s[i] {
+        if text.octets[i] != *octet {
             return false;
         }
-        i += 1;
     }
     true
 }
 
-fn print_front(octets: [u8; 128], n: usize) {
+fn print_front(rt: &impl Print, octets: [u8; 128], n: usize) -> io::Result<()> {
     if n <= 128 {
-        io::write_all(STDOUT_FILENO, &octets[0..n]);
+        rt.write_all(&octets[0..n])?;
     }
+    Ok(())
 }
 
-pub fn print_text(text: Text) {
+pub fn print_text(rt: &impl Print, text: Text) -> io::Result<()> {
     let octets = text.octets;
-    print_front(octets, text.len);
+    print_front(rt, octets, text.len)
 }

@@ -6,14 +6,14 @@ use component::{Answer, Component, Operation, Reject};
 use octets::{Integer, IntegerOctets, InvokeIdentifier, LinkId};
 
 // The answer that the list names.
-#[derive(Drop)]
+#[derive(Clone, Copy)]
 pub enum Answered {
     Answer(Answer),
     Unknown,
 }
 
 // The invoke that the list names.
-#[derive(Drop)]
+#[derive(Clone, Copy)]
 pub enum Invoked {
     Invoke(InvokeIdentifier, Operation),
     Unknown,
@@ -25,12 +25,10 @@ fn at(s: &[u8], i: usize) -> u8 {
 }
 
 pub fn begins(s: &[u8], word: &[u8]) -> bool {
-    let mut i = 0;
-    while i < word.len() {
-        if at(s, i) != word[i] {
+    for (i, octet) in word.iter().enumerate() {
+        if at(s, i) != *octet {
             return false;
         }
-        i += 1;
     }
     true
 }
@@ -69,17 +67,16 @@ pub fn octets(s: &[u8]) -> Component
     ensures { result.count ≤ 32 }
 {
     let mut octets = [0u8; 32];
-    let mut count = 0u8;
-    let mut i = 0;
-    while i < 32 {
+    for i in 0..32 {
         if !is_hex(at(s, 2 * i)) {
-            return Component { octets, count };
+            return Component {
+                octets,
+                count: i as u8,
+            };
         }
         octets[i] = octet(s, 2 * i);
-        count += 1;
-        i += 1;
     }
-    Component { octets, count }
+    Component { octets, count: 32 }
 }
 
 // An invoke identifier of one or two octets.
@@ -108,8 +105,7 @@ fn number(s: &[u8], from: usize) -> u16
     requires { from ≤ 50 }
 {
     let mut n = 0u16;
-    let mut i = from;
-    while i < from + 5 {
+    for i in from..from + 5 {
         let c = at(s, i);
         if c < b'0' {
             return n;
@@ -117,7 +113,6 @@ fn number(s: &[u8], from: usize) -> u16
         if n < 6553 {
             n = n * 10 + ((c - b'0') as u16) % 10;
         }
-        i += 1;
     }
     n
 }
@@ -187,14 +182,12 @@ fn after_number(s: &[u8], from: usize) -> usize
     requires { from ≤ 30 }
     ensures { result ≤ 40 }
 {
-    let mut i = from;
-    while i < from + 6 {
+    for i in from..from + 6 {
         if at(s, i) == b' ' {
             return i + 1;
         }
-        i += 1;
     }
-    i + 1
+    from + 7
 }
 
 // An invoke whose operation these words name.

@@ -1,10 +1,14 @@
 // Prints a line for each of many components: what it says as an EctInform invoke.
+#![tactic(auto)]
+
+use std::io;
+
 mod inform;
 
-fn text(words: &[u8]) {
-    io::write_all(1, words);
+fn text(rt: &impl Print, words: &str) -> io::Result<()> {
+    rt.print(words)
 }
 
-fn main() {
-    inform::forms();
+fn main(rt: HostRuntime) -> io::Result<()> {
+    inform::forms(&rt)
 }

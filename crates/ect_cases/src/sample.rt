@@ -6,8 +6,9 @@ use ect::{StepAnswer, step};
 use events::refusal_number;
 use octets::CallReference;
 use soundness::count;
+use std::io;
 
-pub fn sample() {
+pub fn sample(rt: &impl Print) -> io::Result<()> {
     let made = board::fresh(1, 1);
     let mut reply = [0u8; 128];
     // Open: reference 5, leg 7, outgoing, shown, digits 21.
@@ -20,31 +21,31 @@ pub fn sample() {
     let board = stepped.board;
     match answer {
         StepAnswer::Accepted(n) => {
-            text(b"accepted ");
-            front(n, &reply);
+            text(rt, "accepted ")?;
+            front(rt, n, &reply)?;
         }
         StepAnswer::Refused(refusal) => {
-            text(b"refused ");
-            decimal(refusal_number(refusal) as u64);
+            text(rt, "refused ")?;
+            decimal(rt, refusal_number(refusal) as u64)?;
         }
     }
     match count(board) {
         Counted::Counts { legs, pairs, links } => {
-            text(b"\nlegs ");
-            decimal(legs as u64);
-            text(b", pairs ");
-            decimal(pairs as u64);
-            text(b", LinkIds ");
-            decimal(links as u64);
+            text(rt, "\nlegs ")?;
+            decimal(rt, legs as u64)?;
+            text(rt, ", pairs ")?;
+            decimal(rt, pairs as u64)?;
+            text(rt, ", LinkIds ")?;
+            decimal(rt, links as u64)?;
         }
-        Counted::Unsound => text(b"\nnot sound"),
+        Counted::Unsound => text(rt, "\nnot sound")?,
     }
     match lookup(board, CallReference(5)) {
         Found::At(place) => {
-            text(b"\ncall 5 in row ");
-            decimal(place as u64);
+            text(rt, "\ncall 5 in row ")?;
+            decimal(rt, place as u64)?;
         }
-        Found::Nothing => text(b"\nno call 5"),
+        Found::Nothing => text(rt, "\nno call 5")?,
     }
-    text(b"\n");
+    text(rt, "\n")
 }

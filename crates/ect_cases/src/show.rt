@@ -1,40 +1,36 @@
 // Prints words, numbers, and octets in hex.
 use octets::Integer;
+use std::io;
 
-fn wide(octet: u8) -> u64 {
-    octet as u64
+pub fn text(rt: &impl Print, words: &str) -> io::Result<()> {
+    rt.print(words)
 }
 
-pub fn text(words: &[u8]) {
-    io::write_all(1, words);
-}
-
-pub fn decimal(n: u64) {
-    io::print_decimal(1, n);
+pub fn decimal(rt: &impl Print, n: u64) -> io::Result<()> {
+    rt.print(n)
 }
 
 // A number that may be negative.
-pub fn signed(integer: Integer) {
+pub fn signed(rt: &impl Print, integer: Integer) -> io::Result<()> {
     let n = integer.to_bits();
     if n < 32768 {
-        decimal(n as u64);
-        return;
+        return decimal(rt, n as u64);
     }
-    text(b"-");
-    decimal((65535 - n + 1) as u64);
+    text(rt, "-")?;
+    decimal(rt, (65535 - n + 1) as u64)
 }
 
-pub fn hex(octets: &[u8]) {
-    let mut i = 0;
-    while i < octets.len() {
-        io::print_hex(1, wide(octets[i]), 2);
-        i += 1;
+pub fn hex(rt: &impl Print, octets: &[u8]) -> io::Result<()> {
+    for octet in octets {
+        print!(rt; "{octet:02x}")?;
     }
+    Ok(())
 }
 
 // The first n octets, which are those that were written.
-pub fn front(n: usize, octets: &[u8]) {
+pub fn front(rt: &impl Print, n: usize, octets: &[u8]) -> io::Result<()> {
     if n <= octets.len() {
-        hex(&octets[..n]);
+        hex(rt, &octets[..n])?;
     }
+    Ok(())
 }

@@ -1,77 +1,90 @@
 // Components as a joined leg sends them: which are SubaddressTransfer invokes, and a Leg facility that hands one over.
 use crate::show::text;
+use std::io;
 use subaddresses::{LegComponent, read_leg_component};
 
-fn case(words: &[u8], component: &[u8]) {
-    text(words);
+fn case(rt: &impl Print, words: &str, component: &[u8]) -> io::Result<()> {
+    text(rt, words)?;
     match read_leg_component(component) {
-        LegComponent::SubaddressTransfer => text(b": SubaddressTransfer\n"),
-        LegComponent::Other => text(b": no such invoke\n"),
+        LegComponent::SubaddressTransfer => text(rt, ": SubaddressTransfer\n"),
+        LegComponent::Other => text(rt, ": no such invoke\n"),
     }
 }
 
 // The argument as 04, the subaddress alone.
-fn alone() {
+fn alone(rt: &impl Print) -> io::Result<()> {
     case(
-        b"subaddress of 1 octet",
+        rt,
+        "subaddress of 1 octet",
         b"\xa1\x0e\x02\x01\x05\x06\x06\x04\x00\x82\x71\x01\x03\x04\x01\x37",
-    );
+    )?;
     case(
-        b"of 20 octets",
+        rt,
+        "of 20 octets",
         b"\xa1\x21\x02\x01\x05\x06\x06\x04\x00\x82\x71\x01\x03\x04\x14ABCDEFGHIJKLMNOPQRST",
-    );
+    )?;
     case(
-        b"of none",
+        rt,
+        "of none",
         b"\xa1\x0d\x02\x01\x05\x06\x06\x04\x00\x82\x71\x01\x03\x04\x00",
-    );
+    )?;
     case(
-        b"of 21 octets",
+        rt,
+        "of 21 octets",
         b"\xa1\x22\x02\x01\x05\x06\x06\x04\x00\x82\x71\x01\x03\x04\x15ABCDEFGHIJKLMNOPQRSTU",
-    );
+    )?;
     case(
-        b"an element behind the argument",
+        rt,
+        "an element behind the argument",
         b"\xa1\x10\x02\x01\x05\x06\x06\x04\x00\x82\x71\x01\x03\x04\x01\x37\x05\x00",
-    );
+    )
 }
 
 // The argument as 30, with what may stand behind the subaddress.
-fn in_a_sequence() {
+fn in_a_sequence(rt: &impl Print) -> io::Result<()> {
     case(
-        b"in a sequence",
+        rt,
+        "in a sequence",
         b"\xa1\x10\x02\x01\x05\x06\x06\x04\x00\x82\x71\x01\x03\x30\x03\x04\x01\x37",
-    );
+    )?;
     case(
-        b"with one 01",
+        rt,
+        "with one 01",
         b"\xa1\x13\x02\x01\x05\x06\x06\x04\x00\x82\x71\x01\x03\x30\x06\x04\x01\x37\x01\x01\xff",
-    );
+    )?;
     case(
-        b"with two 01",
+        rt,
+        "with two 01",
         b"\xa1\x16\x02\x01\x05\x06\x06\x04\x00\x82\x71\x01\x03\x30\x09\x04\x01\x37\x01\x01\xff\x01\x01\xff",
-    );
+    )?;
     case(
-        b"with 01 of two octets",
+        rt,
+        "with 01 of two octets",
         b"\xa1\x14\x02\x01\x05\x06\x06\x04\x00\x82\x71\x01\x03\x30\x07\x04\x01\x37\x01\x02\xff\xff",
-    );
+    )?;
     case(
-        b"empty sequence",
+        rt,
+        "empty sequence",
         b"\xa1\x0d\x02\x01\x05\x06\x06\x04\x00\x82\x71\x01\x03\x30\x00",
-    );
+    )
 }
 
-pub fn forms() {
-    alone();
-    in_a_sequence();
+pub fn forms(rt: &impl Print) -> io::Result<()> {
+    alone(rt)?;
+    in_a_sequence(rt)?;
     case(
-        b"padded identifier",
+        rt,
+        "padded identifier",
         b"\xa1\x0f\x02\x02\x00\x05\x06\x06\x04\x00\x82\x71\x01\x03\x04\x01\x37",
-    );
+    )?;
     case(
-        b"object identifier ending 04",
+        rt,
+        "object identifier ending 04",
         b"\xa1\x0e\x02\x01\x05\x06\x06\x04\x00\x82\x71\x01\x04\x04\x01\x37",
-    );
-    case(b"EctExecute", b"\xa1\x06\x02\x01\x05\x02\x01\x06");
-    case(b"result", b"\xa2\x03\x02\x01\x05");
-    case(b"no octets", b"");
+    )?;
+    case(rt, "EctExecute", b"\xa1\x06\x02\x01\x05\x02\x01\x06")?;
+    case(rt, "result", b"\xa2\x03\x02\x01\x05")?;
+    case(rt, "no octets", b"")
 }
 
 // The Leg facility of this leg with a subaddress of one octet, 37, in an invoke of the object identifier that ends so.

@@ -5,29 +5,30 @@ use crate::subaddress::leg_facility;
 use board::Board;
 use ect::StepAnswer;
 use events::refusal_number;
+use std::io;
 
 // One event: the exchange sends what was written, and goes on with the board that it gets.
-fn event(board: Board, octets: &[u8]) -> Board {
+fn event(rt: &impl Print, board: Board, octets: &[u8]) -> io::Result<Board> {
     let mut reply = [0u8; 128];
     let stepped = ect::step(board, octets, &mut reply);
     let answer = stepped.answer;
     match answer {
         StepAnswer::Accepted(n) => {
-            text(b"accepted ");
-            front(n, &reply);
-            text(b"\n");
+            text(rt, "accepted ")?;
+            front(rt, n, &reply)?;
+            text(rt, "\n")?;
         }
         StepAnswer::Refused(refusal) => {
-            text(b"refused ");
-            decimal(refusal_number(refusal) as u64);
-            text(b"\n");
+            text(rt, "refused ")?;
+            decimal(rt, refusal_number(refusal) as u64)?;
+            text(rt, "\n")?;
         }
     }
-    stepped.board
+    Ok(stepped.board)
 }
 
 // Opens reference r on leg r, with the digits 2 and r.
-fn open(board: Board, r: u8, incoming: u8) -> Board {
+fn open(rt: &impl Print, board: Board, r: u8, incoming: u8) -> io::Result<Board> {
     let mut octets = [0u8; 25];
     octets[0] = 1;
     octets[2] = r;
@@ -36,11 +37,11 @@ fn open(board: Board, r: u8, incoming: u8) -> Board {
     octets[9] = 2;
     octets[10] = 50;
     octets[11] = 48 + r % 10;
-    event(board, &octets)
+    event(rt, board, &octets)
 }
 
 // EctExecute on the call with that reference: a1 06, identifier 02 01 05, operation 02 01 06.
-fn execute(board: Board, r: u8) -> Board {
+fn execute(rt: &impl Print, board: Board, r: u8) -> io::Result<Board> {
     let mut octets = [0u8; 36];
     octets[0] = 5;
     octets[2] = r;
@@ -53,18 +54,19 @@ fn execute(board: Board, r: u8) -> Board {
     octets[9] = 2;
     octets[10] = 1;
     octets[11] = 6;
-    event(board, &octets)
+    event(rt, board, &octets)
 }
 
-pub fn ward_transfer(fresh: Board) {
-    let caller = open(fresh, 1, 1);
-    let talking = event(caller, b"\x02\x00\x01\x0a");
-    let asked = event(talking, b"\x03\x00\x01\x01");
-    let held = event(asked, b"\x03\x00\x01\x02");
-    let ward = open(held, 2, 0);
-    let alerting = event(ward, b"\x02\x00\x02\x04");
-    let joined = execute(alerting, 1);
-    let passed = event(joined, &leg_facility(2, 3));
-    let refused = event(passed, &leg_facility(2, 4));
-    event(refused, b"\x06\x00\x00\x00\x02");
+pub fn ward_transfer(rt: &impl Print, fresh: Board) -> io::Result<()> {
+    let caller = open(rt, fresh, 1, 1)?;
+    let talking = event(rt, caller, b"\x02\x00\x01\x0a")?;
+    let asked = event(rt, talking, b"\x03\x00\x01\x01")?;
+    let held = event(rt, asked, b"\x03\x00\x01\x02")?;
+    let ward = open(rt, held, 2, 0)?;
+    let alerting = event(rt, ward, b"\x02\x00\x02\x04")?;
+    let joined = execute(rt, alerting, 1)?;
+    let passed = event(rt, joined, &leg_facility(2, 3))?;
+    let refused = event(rt, passed, &leg_facility(2, 4))?;
+    event(rt, refused, b"\x06\x00\x00\x00\x02")?;
+    Ok(())
 }

@@ -2,16 +2,21 @@
 //
 // The log is read and the text written in large pieces, so that a log of any length takes the same memory. What is
 // known is written before more of the log is waited for.
+#![tactic(auto)]
+
 ghost use Rattle.std.specs.Prelude.{◌+◌, ◌≤◌, length};
 
 use board::{Board, Counted, fresh};
-use libc::{STDERR_FILENO, STDIN_FILENO, STDOUT_FILENO};
 use playing::{Pause, Played, play};
 use soundness::count;
+use std::io::Read;
+
+// How many octets are read or written at once.
+const PIECE: usize = 65536;
 
 // A log being played: the board, the number of the last record, where in the buffer the octets lie that are read and
 // not yet played, whether the log has ended, whether all was written so far, and whether there is nothing more to play.
-#[derive(Drop)]
+#[derive(Clone, Copy)]
 struct Log {
     board: Board,
     number: u64,
@@ -22,41 +27,43 @@ struct Log {
     stopped: bool,
 }
 
-// A program has no exit status, so that what fails is said on standard error.
-fn complain(words: &[u8]) {
-    io::write_all(STDERR_FILENO, words);
+// What fails is said on standard error. Where that cannot be written either, nothing is said.
+fn complain(rt: &impl Eprint, words: &str) {
+    let _ = rt.eprintln(words);
 }
 
 // Reads once, behind what is held; 0 where the log has ended, or cannot be read.
-fn read_behind(held: usize, input: &mut [u8]) -> usize
+fn read_behind(rt: &(impl Input + Eprint), held: usize, input: &mut [u8]) -> usize
     requires { held ≤ length input.old }
     ensures { held + result ≤ length input.new }
 {
-    let got = libc::read(STDIN_FILENO, &mut input[held..]);
-    if got < 0 {
-        complain(b"ect_log: cannot read\n");
+    match rt.reader().read(&mut input[held..]) {
+        Ok(got) => got,
+        Err(_) => {
+            complain(rt, "ect_log: cannot read");
+            0
+        }
     }
-    io::count(got, &input[held..])
 }
 
 // Writes the front of a text. Where that fails nothing more is written, and the play stops.
-fn write(n: usize, text: &[u8]) -> bool
+fn write(rt: &(impl Print + Eprint), n: usize, text: &[u8]) -> bool
     requires { n ≤ length text.now }
 {
-    if io::write_all(STDOUT_FILENO, &text[0..n]) {
+    if rt.write_all(&text[0..n]).is_ok() {
         return true;
     }
-    complain(b"ect_log: cannot write\n");
+    complain(rt, "ect_log: cannot write");
     false
 }
 
 // The two option octets, or fewer where the log has no more; and what came with them.
-fn read_options(input: &mut [u8]) -> usize
+fn read_options(rt: &(impl Input + Eprint), input: &mut [u8]) -> usize
     ensures { result ≤ length input.new }
 {
-    let first = read_behind(0, input);
+    let first = read_behind(rt, 0, input);
     if first == 1 {
-        return 1 + read_behind(1, input);
+        return 1 + read_behind(rt, 1, input);
     }
     first
 }
@@ -66,21 +73,17 @@ fn move_to_front(from: usize, to: usize, input: &mut [u8]) -> usize
     requires { (from ≤ to) × (to ≤ length input.old) }
     ensures { result ≤ length input.new }
 {
-    let mut i = 0;
-    while i < to - from {
-        input[i] = input[from + i];
-        i += 1;
-    }
+    input.copy_within(from..to, 0);
     to - from
 }
 
 // More of the log behind what is not yet played.
-fn refill(log: Log, input: &mut [u8]) -> Log
+fn refill(rt: &(impl Input + Eprint), log: Log, input: &mut [u8]) -> Log
     requires { (log.from ≤ log.to) × (log.to ≤ length input.old) }
     ensures { (result.from ≤ result.to) × (result.to ≤ length input.new) }
 {
     let held = move_to_front(log.from, log.to, input);
-    let more = read_behind(held, input);
+    let more = read_behind(rt, held, input);
     Log {
         from: 0,
         to: held + more,
@@ -97,14 +100,14 @@ fn play_piece(log: Log, piece: &[u8], output: &mut [u8]) -> Played
 }
 
 // Plays what is in the buffer as far as it goes, writes its lines, and sees to it that there is more to play.
-fn turn(log: Log, input: &mut [u8], output: &mut [u8]) -> Log
+fn turn(rt: &(impl Input + Print + Eprint), log: Log, input: &mut [u8], output: &mut [u8]) -> Log
     requires { (log.from ≤ log.to) × (log.to ≤ length input.old) }
     ensures { (result.from ≤ result.to) × (result.to ≤ length input.new) }
 {
     let from = log.from;
     let to = log.to;
     let played = play_piece(log, &input[from..to], output);
-    let is_written = write(played.written, output);
+    let is_written = write(rt, played.written, output);
     let board = played.board;
     let next = Log {
         board,
@@ -120,7 +123,7 @@ fn turn(log: Log, input: &mut [u8], output: &mut [u8]) -> Log
     }
     let pause = played.pause;
     match pause {
-        Pause::MoreInput => refill(next, input),
+        Pause::MoreInput => refill(rt, next, input),
         Pause::FullOutput => next,
         Pause::End => Log {
             stopped: true,
@@ -129,61 +132,59 @@ fn turn(log: Log, input: &mut [u8], output: &mut [u8]) -> Log
     }
 }
 
-// The log at its end. A proved loop has to end and nothing says that a log does, so the loop counts its turns
-// down from a number that no run uses up.
-fn run(start: Log, input: &mut [u8], output: &mut [u8]) -> Log
+// The log at its end. A proved loop has to end and nothing says that a log does, so the loop counts its turns up to
+// a number that no run reaches.
+fn run(rt: &(impl Input + Print + Eprint), start: Log, input: &mut [u8], output: &mut [u8]) -> Log
     requires { (start.from ≤ start.to) × (start.to ≤ length input.old) }
 {
     let mut log = start;
-    let mut turns = u64::MAX;
-    while turns > 0 {
+    for _ in 0..u64::MAX {
         if log.stopped {
             return log;
         }
-        log = turn(log, input, output);
-        turns -= 1;
+        log = turn(rt, log, input, output);
     }
     log
 }
 
-fn write_bad_options(output: &mut [u8]) {
+fn write_bad_options(rt: &(impl Print + Eprint), output: &mut [u8]) {
     let n = log_text::bad_options_line(output);
-    write(n, output);
+    write(rt, n, output);
 }
 
-fn write_first(output: &mut [u8]) -> bool {
+fn write_first(rt: &(impl Print + Eprint), output: &mut [u8]) -> bool {
     let n = log_text::first_line(output);
-    write(n, output)
+    write(rt, n, output)
 }
 
 // The counts of a board that the component returned. Such a board is sound.
-fn write_end(board: Board, output: &mut [u8]) {
+fn write_end(rt: &(impl Print + Eprint), board: Board, output: &mut [u8]) {
     match count(board) {
         Counted::Counts { legs, pairs, links } => {
             let n = log_text::end_line(legs as u64, pairs as u64, links as u64, output);
-            write(n, output);
+            write(rt, n, output);
         }
         Counted::Unsound => {
             let n = log_text::end_line(0, 0, 0, output);
-            write(n, output);
+            write(rt, n, output);
         }
     }
 }
 
-fn main() {
-    let mut input = io::large_buffer();
-    let mut output = io::large_buffer();
-    let held = read_options(&mut input);
+fn main(rt: HostRuntime) {
+    let mut input = [0u8; PIECE];
+    let mut output = [0u8; PIECE];
+    let held = read_options(&rt, &mut input);
     if held < 2 {
-        write_bad_options(&mut output);
+        write_bad_options(&rt, &mut output);
         return;
     }
     let made = fresh(input[0], input[1]);
     if made.returned != 0 {
-        write_bad_options(&mut output);
+        write_bad_options(&rt, &mut output);
         return;
     }
-    if !write_first(&mut output) {
+    if !write_first(&rt, &mut output) {
         return;
     }
     let board = made.board;
@@ -196,8 +197,8 @@ fn main() {
         is_written: true,
         stopped: false,
     };
-    let last = run(start, &mut input, &mut output);
+    let last = run(&rt, start, &mut input, &mut output);
     if last.is_written {
-        write_end(last.board, &mut output);
+        write_end(&rt, last.board, &mut output);
     }
 }
