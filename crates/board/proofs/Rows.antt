@@ -1,9 +1,9 @@
 -- Soundness of rows by the tests of one row and of two rows.
+use Rattle.std.specs.Prelude.{None, Option, Some}
 use Prim.Native.Nat.{ℕ}
 use mathlib.Core.Path.{◌≡◌, refl, sym, ap, ◌∙◌}
 use mathlib.Core.Bool.{Bool, true, false, ◌&&◌, not}
 use mathlib.Core.List.{List, Memᴰ}
-use mathlib.Core.Option.{Option, none, some}
 use lib.Dec.{eqb, leb}
 use lib.ListN.{length}
 use Rattle.octets.specs.Lists.{any, all, filter, distinct}
@@ -82,8 +82,8 @@ any_partner rows r n (WithPartner p a) m t =
 
 one_paired : (rows : List Row) (r : Row) (o : Option Entry) → Memᴰ r rows →
     any (λ (b : Row). none_or (λ (e : Entry). partnered_by e.leg e.connection (row_entry b)) o) rows ≡ none_or (partnered (taken rows)) o
-one_paired rows r none m = any_of (λ (b : Row). true) m refl
-one_paired rows r (some e) m = same_tests (λ t. partner_any rows e.leg e.connection t) (λ t. any_partner rows r e.leg e.connection m t)
+one_paired rows r None m = any_of (λ (b : Row). true) m refl
+one_paired rows r (Some e) m = same_tests (λ t. partner_any rows e.leg e.connection t) (λ t. any_partner rows r e.leg e.connection m t)
 
 pub paired_all : (rows : List Row) → all (λ (a : Row). any (paired a) rows) rows ≡ all (partnered (taken rows)) (taken rows)
 unfolding paired

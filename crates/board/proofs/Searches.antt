@@ -1,5 +1,6 @@
 -- The row that a search finds, against the definitions: the entry or the party that they look up is that of the row found, and the lowest empty
 -- row is the one that Open stores to.
+use Rattle.std.specs.Prelude.{None, Option, Some, option_map}
 use Prim.Native.Nat.{ℕ, zero, suc, ◌+◌, ◌≤◌, ◌<◌, zero-le, suc-le-suc}
 use native.Mathlib.Nat.{le_of_suc-le-suc, not-suc-le-zero}
 use native.Mathlib.Numerals.{add-one}
@@ -7,7 +8,6 @@ use native.Mathlib.Omega.{arith}
 use mathlib.Core.Path.{◌≡◌, refl, sym, ap, ap₂, ◌∙◌}
 use mathlib.Core.Bool.{Bool, true, false, ◌&&◌, ◌||◌, not}
 use mathlib.Core.List.{List, [], ◌∷◌}
-use mathlib.Core.Option.{Option, none, some, map}
 use lib.Dec.{eqb}
 use lib.ListN.{length, get_or, set, take, drop, drop_of_length-le}
 use lib.Seq.{drop-cons, take_all}
@@ -19,11 +19,10 @@ use Rattle.octets.proofs.Places.{told, Lowest, place_cons, place_lowest, place_n
 use Rattle.board.specs.declared.Standing.{Standing}
 use Rattle.board.specs.declared.Standing.TheVariants.{Empty, Served, Joined}
 use Rattle.board.specs.declared.Row.{Row}
-use Rattle.board.specs.declared.Found.TheVariants.{At, Nothing}
 use Rattle.board.specs.declared.finding.Key.{Key}
 use Rattle.board.specs.declared.finding.Key.TheVariants as key
 use Rattle.board.specs.Entries.{Entry, Party, entry_of, row_entry, taken, occupied, party_of, calls, has_leg, has_reference, has_link_id, row_party, has_party_reference, has_party_link_id}
-use Rattle.board.specs.Lookup.{is_call_of, found_at}
+use Rattle.board.specs.Lookup.{is_call_of}
 use Rattle.board.specs.Code.Keys.{is_empty, matches_key, has_link_id_of}
 use Rattle.board.specs.Making.{empty_row}
 use Rattle.board.specs.Changes.{enter, enter_at, full}
@@ -31,24 +30,16 @@ use Rattle.octets.specs.Tests.{has, bind_option}
 
 -- ---- the answer of a search
 
-pub found_at_lem : (o : Option ℕ) (i : ℕ) → found_at o ≡ At i → o ≡ some i
-found_at_lem none i e = let z : ◌≡◌ {A = ℕ} 0 1 = cc in absurd (omega arith)
-found_at_lem (some j) i e = let k : j ≡ i = cc in ap {B = Option ℕ} some k
-
-pub found_nothing : (o : Option ℕ) → found_at o ≡ Nothing → o ≡ none
-found_nothing none e = refl
-found_nothing (some j) e = let z : ◌≡◌ {A = ℕ} 0 1 = cc in absurd (omega arith)
-
 -- a loop that looks for the first element: from its test of element i to the search of what is left
 module _ {A : Type 0} (p : A → Bool) (l : List A) (i : ℕ) where
   module _ (d : A) (r : Bool) (h : i < length l) (e : r ≡ p (get_or l i d)) where
-    pub first_yes : r ≡ true → some (get_or l i d) ≡ find p (drop i l)
+    pub first_yes : r ≡ true → Some (get_or l i d) ≡ find p (drop i l)
     first_yes t = rw (drop-cons l i d h, told e t)
 
     pub first_no : r ≡ false → find p (drop (i + 1) l) ≡ find p (drop i l)
     first_no t = rw (drop-cons l i d h, told e t, add-one)
 
-  pub first_end : length l ≤ i → none ≡ find p (drop i l)
+  pub first_end : length l ≤ i → None ≡ find p (drop i l)
   first_end h = rw (drop_of_length-le l h)
 
 -- a loop that asks whether some element passes: those before i, and then element i
@@ -75,12 +66,12 @@ module _ {A : Type 0} (p : A → Bool) where
 -- the element at a place, if there is one
 module _ {A : Type 0} (d : A) where
   abbrev pub element_at : List A → Option ℕ → Option A
-  element_at l none = none
-  element_at l (some i) = some (get_or l i d)
+  element_at l None = None
+  element_at l (Some i) = Some (get_or l i d)
 
-  element_later : (x : A) (l : List A) (o : Option ℕ) → element_at l o ≡ element_at (x ∷ l) (map suc o)
-  element_later x l none = refl
-  element_later x l (some i) = refl
+  element_later : (x : A) (l : List A) (o : Option ℕ) → element_at l o ≡ element_at (x ∷ l) (option_map suc o)
+  element_later x l None = refl
+  element_later x l (Some i) = refl
 
   -- what is found is the element at the lowest place
   pub find_at : (p : A → Bool) (l : List A) → find p l ≡ element_at l (place_from p 0 l)
@@ -88,19 +79,19 @@ module _ {A : Type 0} (d : A) where
   find_at p [] = refl
   find_at p (x ∷ l) = go (p x) (find_at p l) ∙ sym (ap (element_at (x ∷ l)) (place_cons p x l))
     where
-      go : (b : Bool) → find p l ≡ element_at l (place_from p 0 l) → or_else b x (find p l) ≡ element_at (x ∷ l) (or_else b 0 (map suc (place_from p 0 l)))
+      go : (b : Bool) → find p l ≡ element_at l (place_from p 0 l) → or_else b x (find p l) ≡ element_at (x ∷ l) (or_else b 0 (option_map suc (place_from p 0 l)))
       go true h = refl
       go false h = h ∙ element_later x l (place_from p 0 l)
 
 -- the row found by a key lies within the rows and has the key, and no earlier row has it
-pub key_lowest : (k : Key) (rows : List Row) (d : Row) (i : ℕ) → found_at (place_from (matches_key k) 0 rows) ≡ At i → Lowest (matches_key k) d rows i
-key_lowest k rows d i e = place_lowest (matches_key k) d rows i (found_at_lem (place_from (matches_key k) 0 rows) i e)
+pub key_lowest : (k : Key) (rows : List Row) (d : Row) (i : ℕ) → place_from (matches_key k) 0 rows ≡ Some i → Lowest (matches_key k) d rows i
+key_lowest k rows d i e = place_lowest (matches_key k) d rows i e
 
-pub key_nowhere : (k : Key) (rows : List Row) → found_at (place_from (matches_key k) 0 rows) ≡ Nothing → any (matches_key k) rows ≡ false
-key_nowhere k rows e = place_none (matches_key k) rows (found_nothing (place_from (matches_key k) 0 rows) e)
+pub key_nowhere : (k : Key) (rows : List Row) → place_from (matches_key k) 0 rows ≡ None → any (matches_key k) rows ≡ false
+key_nowhere k rows e = place_none (matches_key k) rows e
 
-pub key_somewhere : (k : Key) (rows : List Row) (i : ℕ) → found_at (place_from (matches_key k) 0 rows) ≡ At i → any (matches_key k) rows ≡ true
-key_somewhere k rows i e = place_some (matches_key k) rows i (found_at_lem (place_from (matches_key k) 0 rows) i e)
+pub key_somewhere : (k : Key) (rows : List Row) (i : ℕ) → place_from (matches_key k) 0 rows ≡ Some i → any (matches_key k) rows ≡ true
+key_somewhere k rows i e = place_some (matches_key k) rows i e
 
 -- ---- the entry that the definitions look up is that of the row found
 
@@ -145,12 +136,12 @@ entry_by_link_id l rows d = entry_found_lem (has_link_id l.0) (matches_key (key.
 
 -- the same, by the answer of the search
 
-pub leg_at : (n : ℕ) (rows : List Row) (d : Row) (i : ℕ) → found_at (place_from (matches_key (key.Leg n)) 0 rows) ≡ At i →
+pub leg_at : (n : ℕ) (rows : List Row) (d : Row) (i : ℕ) → place_from (matches_key (key.Leg n)) 0 rows ≡ Some i →
     find (has_leg n) (taken rows) ≡ row_entry (get_or rows i d)
-leg_at n rows d i e = entry_by_leg n rows d ∙ ap (value_at row_entry d rows) (found_at_lem (place_from (matches_key (key.Leg n)) 0 rows) i e)
+leg_at n rows d i e = entry_by_leg n rows d ∙ ap (value_at row_entry d rows) e
 
-pub leg_nowhere : (n : ℕ) (rows : List Row) → found_at (place_from (matches_key (key.Leg n)) 0 rows) ≡ Nothing → find (has_leg n) (taken rows) ≡ none
-leg_nowhere n rows e = entry_by_leg n rows empty_row ∙ ap (value_at row_entry empty_row rows) (found_nothing (place_from (matches_key (key.Leg n)) 0 rows) e)
+pub leg_nowhere : (n : ℕ) (rows : List Row) → place_from (matches_key (key.Leg n)) 0 rows ≡ None → find (has_leg n) (taken rows) ≡ None
+leg_nowhere n rows e = entry_by_leg n rows empty_row ∙ ap (value_at row_entry empty_row rows) e
 
 -- ---- some entry has a leg, a reference or a LinkId where some row has it
 
@@ -202,23 +193,23 @@ party_by_link_id l rows d = party_found_lem (has_party_link_id l.0) (matches_key
 
 -- the same, by the answer of the search
 
-pub reference_at : (r : CallReference) (rows : List Row) (d : Row) (i : ℕ) → found_at (place_from (matches_key (key.Reference r)) 0 rows) ≡ At i →
+pub reference_at : (r : CallReference) (rows : List Row) (d : Row) (i : ℕ) → place_from (matches_key (key.Reference r)) 0 rows ≡ Some i →
     find (has_party_reference r.0) (calls (taken rows)) ≡ row_party (get_or rows i d)
-reference_at r rows d i e = party_by_reference r rows d ∙ ap (value_at row_party d rows) (found_at_lem (place_from (matches_key (key.Reference r)) 0 rows) i e)
+reference_at r rows d i e = party_by_reference r rows d ∙ ap (value_at row_party d rows) e
 
-pub reference_nowhere : (r : CallReference) (rows : List Row) → found_at (place_from (matches_key (key.Reference r)) 0 rows) ≡ Nothing →
-    find (has_party_reference r.0) (calls (taken rows)) ≡ none
+pub reference_nowhere : (r : CallReference) (rows : List Row) → place_from (matches_key (key.Reference r)) 0 rows ≡ None →
+    find (has_party_reference r.0) (calls (taken rows)) ≡ None
 reference_nowhere r rows e =
-    party_by_reference r rows empty_row ∙ ap (value_at row_party empty_row rows) (found_nothing (place_from (matches_key (key.Reference r)) 0 rows) e)
+    party_by_reference r rows empty_row ∙ ap (value_at row_party empty_row rows) e
 
-pub link_id_at : (l : LinkId) (rows : List Row) (d : Row) (i : ℕ) → found_at (place_from (matches_key (key.LinkId l)) 0 rows) ≡ At i →
+pub link_id_at : (l : LinkId) (rows : List Row) (d : Row) (i : ℕ) → place_from (matches_key (key.LinkId l)) 0 rows ≡ Some i →
     find (has_party_link_id l.0) (calls (taken rows)) ≡ row_party (get_or rows i d)
-link_id_at l rows d i e = party_by_link_id l rows d ∙ ap (value_at row_party d rows) (found_at_lem (place_from (matches_key (key.LinkId l)) 0 rows) i e)
+link_id_at l rows d i e = party_by_link_id l rows d ∙ ap (value_at row_party d rows) e
 
-pub link_id_nowhere : (l : LinkId) (rows : List Row) → found_at (place_from (matches_key (key.LinkId l)) 0 rows) ≡ Nothing →
-    find (has_party_link_id l.0) (calls (taken rows)) ≡ none
+pub link_id_nowhere : (l : LinkId) (rows : List Row) → place_from (matches_key (key.LinkId l)) 0 rows ≡ None →
+    find (has_party_link_id l.0) (calls (taken rows)) ≡ None
 link_id_nowhere l rows e =
-    party_by_link_id l rows empty_row ∙ ap (value_at row_party empty_row rows) (found_nothing (place_from (matches_key (key.LinkId l)) 0 rows) e)
+    party_by_link_id l rows empty_row ∙ ap (value_at row_party empty_row rows) e
 
 -- ---- Open: the lowest empty row is stored to
 
@@ -244,5 +235,5 @@ enter_full new (x ∷ rows) e = go (occupied x.standing) e (enter_full new rows)
 
 -- ---- where no row is empty, the search for one finds none
 
-pub full_nowhere : (rows : List Row) → full rows ≡ true → place_from (matches_key key.Empty) 0 rows ≡ none
+pub full_nowhere : (rows : List Row) → full rows ≡ true → place_from (matches_key key.Empty) 0 rows ≡ None
 full_nowhere rows e = none_place is_empty rows (is_not e)

@@ -1,9 +1,9 @@
 -- What soundness says of entries, and that it does not turn on their order.
+use Rattle.std.specs.Prelude.{None, Option, Some}
 use Prim.Native.Nat.{◌≤◌, ℕ}
 use mathlib.Core.Path.{◌∙◌, ◌≡◌, sym, refl, subst, ap}
 use mathlib.Core.Bool.{◌&&◌, true, not, Bool}
 use mathlib.Core.List.{List, Memᴰ}
-use mathlib.Core.Option.{Option, none, some}
 use lib.Dec.{leb, eqb}
 use lib.ListN.{length}
 use lib.IntN.{ℤ}
@@ -48,16 +48,16 @@ of_sound h = both h.rights (both h.legs (both h.refs (both h.lids (both h.few h.
 -- ---- the tests of equality
 
 same_numbers_sym : (o u : Option ℕ) → same_numbers o u ≡ same_numbers u o
-same_numbers_sym none none = refl
-same_numbers_sym none (some n) = refl
-same_numbers_sym (some m) none = refl
-same_numbers_sym (some m) (some n) = eqb_sym m n
+same_numbers_sym None None = refl
+same_numbers_sym None (Some n) = refl
+same_numbers_sym (Some m) None = refl
+same_numbers_sym (Some m) (Some n) = eqb_sym m n
 
 same_link_ids_in_sym : (o u : Option ℤ) → same_link_ids_in o u ≡ same_link_ids_in u o
-same_link_ids_in_sym none none = refl
-same_link_ids_in_sym none (some n) = refl
-same_link_ids_in_sym (some m) none = refl
-same_link_ids_in_sym (some m) (some n) = same_integer_sym m n
+same_link_ids_in_sym None None = refl
+same_link_ids_in_sym None (Some n) = refl
+same_link_ids_in_sym (Some m) None = refl
+same_link_ids_in_sym (Some m) (Some n) = same_integer_sym m n
 
 -- ---- one entry for a leg, a reference, a LinkId
 
@@ -65,14 +65,14 @@ pub legs_one : (n : ℕ) {es : List Entry} → Sound es → length (filter (has_
 legs_one n {es} s = distinct_one same_legs (has_leg n) (λ e f a b. eqb_of e.leg f.leg (sym (eqb_eq n e.leg a) ∙ eqb_eq n f.leg b)) es s.legs
 
 pub is_number_same : (r : ℕ) (o u : Option ℕ) → is_number r o ≡ true → is_number r u ≡ true → same_numbers o u ≡ true
-is_number_same r none u a b = absurd (true_not_false a refl)
-is_number_same r (some m) none a b = absurd (true_not_false b refl)
-is_number_same r (some m) (some n) a b = eqb_of m n (sym (eqb_eq r m a) ∙ eqb_eq r n b)
+is_number_same r None u a b = absurd (true_not_false a refl)
+is_number_same r (Some m) None a b = absurd (true_not_false b refl)
+is_number_same r (Some m) (Some n) a b = eqb_of m n (sym (eqb_eq r m a) ∙ eqb_eq r n b)
 
 is_link_id_same : (z : ℤ) (o u : Option ℤ) → is_link_id z o ≡ true → is_link_id z u ≡ true → same_link_ids_in o u ≡ true
-is_link_id_same z none u a b = absurd (true_not_false a refl)
-is_link_id_same z (some x) none a b = absurd (true_not_false b refl)
-is_link_id_same z (some x) (some y) a b = subst (λ (w : ℤ). same_integer x w ≡ true) (sym (same_integer_eq z x a) ∙ same_integer_eq z y b) (same_integer_self x)
+is_link_id_same z None u a b = absurd (true_not_false a refl)
+is_link_id_same z (Some x) None a b = absurd (true_not_false b refl)
+is_link_id_same z (Some x) (Some y) a b = subst (λ (w : ℤ). same_integer x w ≡ true) (sym (same_integer_eq z x a) ∙ same_integer_eq z y b) (same_integer_self x)
 
 pub refs_one : (r : ℕ) {es : List Entry} → Sound es → length (filter (has_reference r) es) ≤ 1
 refs_one r {es} s = distinct_one same_references (has_reference r) (λ e f a b. is_number_same r (reference_of e.connection) (reference_of f.connection) a b) es s.refs

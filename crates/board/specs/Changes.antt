@@ -1,11 +1,10 @@
 -- What each row becomes by an accepted event (document 01, "Event records" and "Serving it").
-use Rattle.std.specs.Prelude.{ℕ, Bool, true, false, ◌&&◌, ◌||◌, not, cond, List, [], ◌∷◌, map, eqb}
+use Rattle.std.specs.Prelude.{ℕ, Bool, true, false, ◌&&◌, ◌||◌, not, cond, List, [], ◌∷◌, map, eqb, Some}
 use Rattle.octets.specs.declared.CallReference.{CallReference}
 use Rattle.octets.specs.declared.LinkId.{LinkId}
 use Rattle.octets.specs.Lists.{any}
 use Rattle.board.specs.declared.CallState.{CallState}
 use Rattle.board.specs.declared.AuxiliaryState.{AuxiliaryState}
-use Rattle.board.specs.declared.OptionalLinkId.TheVariants.{Present}
 use Rattle.board.specs.declared.Call.{Call}
 use Rattle.board.specs.declared.Standing.{Standing}
 use Rattle.board.specs.declared.Standing.TheVariants.{Empty, Served, Joined}
@@ -26,7 +25,7 @@ abbrev pub with_auxiliary : AuxiliaryState → Call → Call
 with_auxiliary a c = record { reference = c.reference; direction = c.direction; state = c.state; auxiliary = a; link = c.link }
 
 abbrev pub with_link_id : LinkId → Call → Call
-with_link_id l c = record { reference = c.reference; direction = c.direction; state = c.state; auxiliary = c.auxiliary; link = Present l }
+with_link_id l c = record { reference = c.reference; direction = c.direction; state = c.state; auxiliary = c.auxiliary; link = Some l }
 
 -- ---- a row with its standing changed, by its leg and standing
 

@@ -1,9 +1,9 @@
 -- The counts of rows (document 01, "The board": the last paragraph).
-use Rattle.std.specs.Prelude.{ℕ, ◌/◌, cond, List, length}
+use Rattle.std.specs.Prelude.{ℕ, ◌/◌, cond, List, length, Result, Ok, Err}
 use Rattle.octets.specs.Lists.{filter}
 use Rattle.board.specs.declared.Row.{Row}
-use Rattle.board.specs.declared.Counted.{Counted}
-use Rattle.board.specs.declared.Counted.TheVariants.{Counts, Unsound}
+use Rattle.board.specs.declared.Counts.{Counts}
+use Rattle.board.specs.declared.Unsound.{Unsound}
 use Rattle.board.specs.Entries.{Entry, taken, is_joined, link_ids}
 use Rattle.board.specs.Soundness.{sound_rows}
 
@@ -31,6 +31,6 @@ counts rows =
     (record { returned = 2; legs = 0; pairs = 0; links = 0 })
 
 -- the number and the counts that each case of the code's answer stands for
-abbrev pub counted_answer : Counted → CountsAnswer
-counted_answer (Counts l p k) = record { returned = 0; legs = l; pairs = p; links = k }
-counted_answer Unsound = record { returned = 2; legs = 0; pairs = 0; links = 0 }
+abbrev pub counted_answer : Result Counts Unsound → CountsAnswer
+counted_answer (Ok c) = record { returned = 0; legs = c.legs; pairs = c.pairs; links = c.links }
+counted_answer (Err u) = record { returned = 2; legs = 0; pairs = 0; links = 0 }

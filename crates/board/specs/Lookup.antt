@@ -1,12 +1,9 @@
 -- Lookup by reference (document 01, "The board": the last paragraph).
-use Rattle.std.specs.Prelude.{ℕ, Bool, false, List, eqb}
-use Rattle.std.proofs.Math.Option.{Option, none, some}
+use Rattle.std.specs.Prelude.{ℕ, Bool, false, List, eqb, None, Option, Some}
 use Rattle.octets.specs.Lists.{place_from}
 use Rattle.board.specs.declared.Standing.{Standing}
 use Rattle.board.specs.declared.Standing.TheVariants.{Empty, Served, Joined}
 use Rattle.board.specs.declared.Row.{Row}
-use Rattle.board.specs.declared.Found.{Found}
-use Rattle.board.specs.declared.Found.TheVariants.{At, Nothing}
 use Rattle.board.specs.Making.{empty_row}
 
 -- "a call of that reference"
@@ -18,15 +15,10 @@ is_call_of r (Joined p a) = false
 abbrev pub has_call_of : ℕ → Row → Bool
 has_call_of r row = is_call_of r row.standing
 
--- a place as the code says it
-abbrev pub found_at : Option ℕ → Found
-found_at none = Nothing
-found_at (some i) = At i
-
 -- the row found, or an empty one
 abbrev pub found_row : Option Row → Row
-found_row none = empty_row
-found_row (some r) = r
+found_row None = empty_row
+found_row (Some r) = r
 
 -- what lookup gives: a number and a place
 pub record LookupAnswer : Type 0 where
@@ -35,13 +27,13 @@ pub record LookupAnswer : Type 0 where
 
 -- "Lookup gives 0 and the lowest place, counted from 0, with a call of that reference, else 9 and place 0"
 abbrev pub lowest_place : Option ℕ → LookupAnswer
-lowest_place none = record { returned = 9; place = 0 }
-lowest_place (some i) = record { returned = 0; place = i }
+lowest_place None = record { returned = 9; place = 0 }
+lowest_place (Some i) = record { returned = 0; place = i }
 
 unfoldable pub lookup : ℕ → List Row → LookupAnswer
 lookup r rows = lowest_place (place_from (has_call_of r) 0 rows)
 
 -- the number and the place that each case of the code's answer stands for
-abbrev pub found_answer : Found → LookupAnswer
-found_answer (At i) = record { returned = 0; place = i }
-found_answer Nothing = record { returned = 9; place = 0 }
+abbrev pub found_answer : Option ℕ → LookupAnswer
+found_answer None = record { returned = 9; place = 0 }
+found_answer (Some i) = record { returned = 0; place = i }

@@ -1,7 +1,7 @@
 -- When a board is sound (document 01, "The board": the paragraph that defines the term).
-use Rattle.std.specs.Prelude.{ℕ, Bool, true, false, ◌&&◌, not, List, eqb, leb, ℤ, length, take, drop}
-use Rattle.std.proofs.Math.Option.{Option, none, some}
+use Rattle.std.specs.Prelude.{ℕ, Bool, true, false, ◌&&◌, not, List, eqb, leb, ℤ, length, take, drop, None, Option, Some}
 use Rattle.octets.specs.Lists.{any, all, distinct}
+pub use Rattle.digits.specs.Digits.{is_digit, zeros}
 use Rattle.board.specs.declared.Standing.{Standing}
 use Rattle.board.specs.declared.Standing.TheVariants.{Empty, Served, Joined}
 use Rattle.board.specs.declared.PartyNumber.{PartyNumber}
@@ -13,12 +13,6 @@ use Rattle.board.specs.Entries.{Connection, WithUser, WithPartner, Entry, taken,
 use Rattle.board.specs.LinkIds.{most_link_ids}
 
 -- ---- "fields obey this section and the digit rules below"
-
-abbrev pub zeros : List ℕ → Bool
-zeros os = all (λ (o : ℕ). eqb o 0) os
-
-abbrev pub is_digit : ℕ → Bool
-is_digit o = leb 48 o && leb o 57
 
 -- "digit count 1 (0 to 15), 15 octets: that many ASCII digits, then zeros"
 abbrev pub valid_digits : ℕ → List ℕ → Bool
@@ -59,15 +53,15 @@ abbrev pub same_legs : Entry → Entry → Bool
 same_legs e f = has_leg e.leg f
 
 abbrev pub same_numbers : Option ℕ → Option ℕ → Bool
-same_numbers none o = false
-same_numbers (some n) o = is_number n o
+same_numbers None o = false
+same_numbers (Some n) o = is_number n o
 
 abbrev pub same_references : Entry → Entry → Bool
 same_references e f = same_numbers (reference_of e.connection) (reference_of f.connection)
 
 abbrev pub same_link_ids_in : Option ℤ → Option ℤ → Bool
-same_link_ids_in none o = false
-same_link_ids_in (some z) o = is_link_id z o
+same_link_ids_in None o = false
+same_link_ids_in (Some z) o = is_link_id z o
 
 abbrev pub same_link_ids : Entry → Entry → Bool
 same_link_ids e f = same_link_ids_in (link_id_of e.connection) (link_id_of f.connection)

@@ -2,9 +2,10 @@
 #![tactic(auto)]
 
 ghost use Rattle.std.specs.Prelude.{◌≡◌};
-ghost use Rattle.board.specs.Soundness.{valid_options};
-ghost use Rattle.board.specs.Making.{empty_row, empty_board, making_refused, fresh as fresh_board};
+ghost use Rattle.board.specs.Soundness.{valid_digits, valid_options};
+ghost use Rattle.board.specs.Making.{empty_row, empty_board, made_answer, fresh as fresh_board};
 
+use digits::{all_digits, all_zeros};
 use octets::{CallReference, LinkId};
 
 pub mod finding;
@@ -13,14 +14,14 @@ pub mod finding;
 pub const MOST_LINK_IDS: usize = 16;
 
 // 0 outgoing, 1 incoming.
-#[derive(Clone, Copy)]
+#[derive(Clone, Copy, PartialEq, Eq)]
 pub enum Direction {
     Outgoing,
     Incoming,
 }
 
 // The call states of ETS 300 102-1 that a served call can have: 3, 4, 7 and 10.
-#[derive(Clone, Copy)]
+#[derive(Clone, Copy, PartialEq, Eq)]
 pub enum CallState {
     OutgoingCallProceeding,
     CallDelivered,
@@ -29,18 +30,12 @@ pub enum CallState {
 }
 
 // The auxiliary states, 0 to 3.
-#[derive(Clone, Copy)]
+#[derive(Clone, Copy, PartialEq, Eq)]
 pub enum AuxiliaryState {
     Idle,
     HoldRequest,
     CallHeld,
     RetrieveRequest,
-}
-
-#[derive(Clone, Copy)]
-pub enum OptionalLinkId {
-    Absent,
-    Present(LinkId),
 }
 
 // A call of a far party with the served user.
@@ -50,7 +45,7 @@ pub struct Call {
     pub direction: Direction,
     pub state: CallState,
     pub auxiliary: AuxiliaryState,
-    pub link: OptionalLinkId,
+    pub link: Option<LinkId>,
 }
 
 // The standing of a row: empty, a call with the served user, or joined with the leg of a partner.
@@ -113,20 +108,6 @@ pub struct Party {
     pub call: Call,
 }
 
-// The entry that was looked for.
-#[derive(Clone, Copy)]
-pub enum FoundEntry {
-    This(Entry),
-    Nothing,
-}
-
-// The party that was looked for.
-#[derive(Clone, Copy)]
-pub enum FoundParty {
-    This(Party),
-    Nothing,
-}
-
 // A change that an accepted event makes to rows that are taken: of the call with a reference its call state,
 // its auxiliary state or its LinkId; two legs joined; a leg's alerting ended; a leg's row emptied, or a pair's.
 #[derive(Clone, Copy)]
@@ -140,18 +121,10 @@ pub enum Change {
     ReleasePair(u32, u32),
 }
 
-// What making a board returns: 0 and the board, or 5 and the empty board with both options 0.
+// The refusal to make a board, an option being neither 0 nor 1. It brings the empty board with both options 0.
 #[derive(Clone, Copy)]
-pub struct Made {
-    pub returned: u8,
+pub struct BadOptions {
     pub board: Board,
-}
-
-// What lookup answers: 0 and a place, or 9 and place 0.
-#[derive(Clone, Copy)]
-pub enum Found {
-    At(usize),
-    Nothing,
 }
 
 // Legs, joined rows and live LinkIds.
@@ -162,16 +135,17 @@ pub struct Tally {
     pub links: usize,
 }
 
-// What the count answers: 0 and the three counts, or 2 and zeros.
-#[derive(Clone, Copy)]
-pub enum Counted {
-    Counts {
-        legs: usize,
-        pairs: usize,
-        links: usize,
-    },
-    Unsound,
+// The three counts of rows.
+#[derive(Clone, Copy, PartialEq, Eq)]
+pub struct Counts {
+    pub legs: usize,
+    pub pairs: usize,
+    pub links: usize,
 }
+
+// The refusal to count: the rows are not sound.
+#[derive(Clone, Copy, PartialEq, Eq)]
+pub struct Unsound;
 
 pub fn empty_row() -> Row
     ensures { result ≡ empty_row }
@@ -199,6 +173,14 @@ fn empty_board(options: Options) -> Board
     }
 }
 
+// As many digits as the count says, then zeros.
+pub fn valid_digits(count: u8, digits: &[u8; 15]) -> bool
+    ensures { result ≡ valid_digits count digits.now }
+{
+    let n = usize::from(count);
+    n <= 15 && all_digits(&digits[..n]) && all_zeros(&digits[n..])
+}
+
 // Options are 0 or 1.
 pub fn valid_options(options: Options) -> bool
     ensures { result ≡ valid_options options }
@@ -207,26 +189,21 @@ pub fn valid_options(options: Options) -> bool
 }
 
 // A fresh board of two option octets, each 0 or 1.
-pub fn fresh(subscribed: u8, alerting: u8) -> Made
-    ensures { result ≡ fresh_board subscribed alerting }
+#[tactic(auto, unfolding(crate::specs::Making::fresh))]
+pub fn fresh(subscribed: u8, alerting: u8) -> Result<Board, BadOptions>
+    ensures { made_answer result ≡ fresh_board subscribed alerting }
 {
     let options = Options {
         subscribed,
         alerting,
     };
-    if !valid_options(options) {
-        return refused();
+    if valid_options(options) {
+        return Ok(empty_board(options));
     }
-    let board = empty_board(options);
-    Made { returned: 0, board }
-}
-
-fn refused() -> Made
-    ensures { result ≡ making_refused }
-{
-    let board = empty_board(Options {
-        subscribed: 0,
-        alerting: 0,
-    });
-    Made { returned: 5, board }
+    Err(BadOptions {
+        board: empty_board(Options {
+            subscribed: 0,
+            alerting: 0,
+        }),
+    })
 }

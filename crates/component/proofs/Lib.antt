@@ -1,5 +1,4 @@
 -- Laws of components, for the proofs of this crate and of those above it.
-pub mod ArgumentLaws
 pub mod Promises
 pub mod ReadingLaws
 pub mod WriterLaws

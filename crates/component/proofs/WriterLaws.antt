@@ -24,9 +24,9 @@ alone tag i p =
     rw e at p
 
 -- a sequence of an object identifier and an integer
-pub sequence : {a b c d e : Component} (i o : IntegerOctets) {n k : ℕ} → n ≡ length (integer o) → AppendedTo blank a (identified 0xA2 i (8 + n + 2)) → AppendedTo a b (0x30 ∷ []) → AppendedTo b c ((8 + n) ∷ []) → AppendedTo c d (element 0x06 (ect_object k)) → AppendedTo d e (integer o)
+pub sequence : {a b d e : Component} (i o : IntegerOctets) {n k : ℕ} → n ≡ length (integer o) → AppendedTo blank a (identified 0xA2 i (8 + n + 2)) → AppendedTo a b (0x30 ∷ (8 + n) ∷ []) → AppendedTo b d (element 0x06 (ect_object k)) → AppendedTo d e (integer o)
     → AppendedTo blank e (element 0xA2 (integer i ++ element 0x30 (element 0x06 (ect_object k) ++ integer o)))
-sequence i o {n} {k} h p q r s t =
+sequence i o {n} {k} h p q s t =
     let f : 8 + n ≡ length (element 0x06 (ect_object k) ++ integer o) = omega arith in
     let g : 8 + n + 2 ≡ length (element 0x30 (element 0x06 (ect_object k) ++ integer o)) = omega arith in
-    follow 0xA2 i (rw g at p) (join q (join (rw f at r) (join s t)))
+    follow 0xA2 i (rw g at p) (join (rw f at q) (join s t))

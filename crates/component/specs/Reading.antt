@@ -1,6 +1,5 @@
 -- What a component is read as (document 01, "Reading a component", in the order of its list).
-use Rattle.std.specs.Prelude.{ℕ, ◌&&◌, cond, List, [], ◌∷◌, eqb, leb, pos, length}
-use Rattle.std.proofs.Math.Option.{Option, none, some}
+use Rattle.std.specs.Prelude.{ℕ, ◌&&◌, cond, List, [], ◌∷◌, eqb, leb, pos, length, None, Option, Some}
 use Rattle.octets.specs.declared.IntegerOctets.{IntegerOctets}
 use Rattle.octets.specs.Lists.{same_octets}
 use Rattle.octets.specs.Numbers.{integer_of, same_integer}
@@ -17,8 +16,8 @@ ect_object n = 0x04 ∷ 0x00 ∷ 0x82 ∷ 0x71 ∷ 0x01 ∷ n ∷ []
 
 -- "ExplicitEctExecute: third element 02 of length 1 or 2, the LinkId; else invoke problem 2."
 abbrev pub link_id_reading : IntegerOctets → Option IntegerOctets → Reading
-link_id_reading i none = Rejected (Invoke i 2)
-link_id_reading i (some o) = Invoked i (ExplicitEctExecute (record { 0 = integer_of o }))
+link_id_reading i None = Rejected (Invoke i 2)
+link_id_reading i (Some o) = Invoked i (ExplicitEctExecute (record { 0 = integer_of o }))
 
 -- "Operation: .. object identifier 04 00 82 71 01 then 01 ExplicitEctExecute or 04 EctLinkIdRequest. Else invoke problem 1."
 abbrev pub global_reading : IntegerOctets → List ℕ → List ℕ → Reading
@@ -28,16 +27,16 @@ global_reading i o rest =
 
 -- "Second element neither 02 of length 1 or 2, nor 06 of length 1 or more: general problem 1 with the identifier."
 abbrev pub object_reading : IntegerOctets → Option (List ℕ) → List ℕ → Reading
-object_reading i none rest = Rejected (General i 1)
-object_reading i (some o) rest = global_reading i o rest
+object_reading i None rest = Rejected (General i 1)
+object_reading i (Some o) rest = global_reading i o rest
 
 -- "Operation: local 6 EctExecute; .. Else invoke problem 1."
 abbrev pub local_reading : IntegerOctets → IntegerOctets → Reading
 local_reading i o = cond (same_integer (integer_of o) (pos 6)) (Invoked i EctExecute) (Rejected (Invoke i 1))
 
 abbrev pub operation_reading : IntegerOctets → Option IntegerOctets → Element → Reading
-operation_reading i none e = object_reading i (object_in e) (rest_of e)
-operation_reading i (some o) e = local_reading i o
+operation_reading i None e = object_reading i (object_in e) (rest_of e)
+operation_reading i (Some o) e = local_reading i o
 
 -- what follows the invoke identifier
 unfoldable pub identified_reading : IntegerOctets → List ℕ → Reading
@@ -45,8 +44,8 @@ identified_reading i rest = operation_reading i (integer_in (first_element rest)
 
 -- "First element not 02 of length 1 or 2 (invoke identifier): general problem 1."
 abbrev pub identifier_reading : Option IntegerOctets → List ℕ → Reading
-identifier_reading none rest = Rejected (Null 1)
-identifier_reading (some i) rest = identified_reading i rest
+identifier_reading None rest = Rejected (Null 1)
+identifier_reading (Some i) rest = identified_reading i rest
 
 -- the contents of an invoke
 unfoldable pub invoke_reading : List ℕ → Reading

@@ -1,12 +1,13 @@
 // The octets of an answer, put one after the other into a component.
-ghost use Rattle.std.specs.Prelude.{◌≡◌, [], ◌∷◌, ◌+◌, ◌≤◌, ◌<◌, length};
+ghost use Rattle.std.specs.Prelude.{◌≡◌, [], ◌+◌, ◌≤◌, length};
 ghost use Rattle.component.specs.declared.Answer.TheVariants.{LinkIdResult};
 ghost use Rattle.component.specs.Answers.{element, integer, reject_octets, answer_octets};
 ghost use Rattle.component.specs.Reading.{ect_object};
 ghost use Rattle.component.specs.Code.Writers.{blank, AppendedTo, identified};
 
+use crate::invoke::ect_object;
 use crate::{Answer, Component, Reject};
-use octets::{IntegerOctets, LinkId};
+use octets::{Integer, IntegerOctets, LinkId};
 
 // No octets yet: all 32 are zero, and stay so beyond those put in.
 fn empty() -> Component
@@ -18,25 +19,18 @@ fn empty() -> Component
     }
 }
 
+// Each asks for the room that it takes: a vector of fixed capacity would ask the same, and be copied into the 32 octets.
 impl Component {
-    // One octet more.
-    fn push(self, octet: u8) -> Component
-        requires { self.count < 32 }
-        ensures { AppendedTo self result (octet ∷ []) }
+    // More octets behind those that are there.
+    fn push<const N: usize>(self, more: [u8; N]) -> Component
+        requires { self.count + N ≤ 32 }
+        ensures { AppendedTo self result more.entry }
     {
         let at = self.count as usize;
         let mut next = self;
-        next.octets[at] = octet;
-        next.count = self.count + 1;
+        next.octets[at..at + N].copy_from_slice(&more);
+        next.count = (at + N) as u8;
         next
-    }
-
-    // An element with one octet of contents.
-    fn push_octet(self, tag: u8, octet: u8) -> Component
-        requires { self.count + 3 ≤ 32 }
-        ensures { AppendedTo self result (element tag (octet ∷ [])) }
-    {
-        self.push(tag).push(1).push(octet)
     }
 
     fn push_integer(self, o: IntegerOctets) -> Component
@@ -44,8 +38,8 @@ impl Component {
         ensures { (AppendedTo self result (integer o)) × (result.count ≤ self.count + 4) }
     {
         match o {
-            IntegerOctets::One(a) => self.push_octet(0x02, a),
-            IntegerOctets::Two(a, b) => self.push(0x02).push(2).push(a).push(b),
+            IntegerOctets::One(a) => self.push([0x02, 1, a]),
+            IntegerOctets::Two(a, b) => self.push([0x02, 2, a, b]),
         }
     }
 
@@ -54,14 +48,7 @@ impl Component {
         requires { self.count + 8 ≤ 32 }
         ensures { AppendedTo self result (element 0x06 (ect_object last)) }
     {
-        self.push(0x06)
-            .push(6)
-            .push(0x04)
-            .push(0x00)
-            .push(0x82)
-            .push(0x71)
-            .push(0x01)
-            .push(last)
+        self.push([0x06, 6]).push(ect_object(last))
     }
 }
 
@@ -80,24 +67,16 @@ fn start(tag: u8, id: IntegerOctets, more: u8) -> Component
     requires { more ≤ 14 }
     ensures { (AppendedTo blank result (identified tag id more)) × (result.count ≤ 6) }
 {
-    empty()
-        .push(tag)
-        .push(integer_len(id) + more)
-        .push_integer(id)
+    empty().push([tag, integer_len(id) + more]).push_integer(id)
 }
 
 fn reject(reject: Reject) -> Component
     ensures { AppendedTo blank result (reject_octets reject) }
 {
     match reject {
-        Reject::Null(problem) => empty()
-            .push(0xa4)
-            .push(5)
-            .push(0x05)
-            .push(0)
-            .push_octet(0x80, problem),
-        Reject::General(id, problem) => start(0xa4, id, 3).push_octet(0x80, problem),
-        Reject::Invoke(id, problem) => start(0xa4, id, 3).push_octet(0x81, problem),
+        Reject::Null(problem) => empty().push([0xa4, 5, 0x05, 0, 0x80, 1, problem]),
+        Reject::General(id, problem) => start(0xa4, id, 3).push([0x80, 1, problem]),
+        Reject::Invoke(id, problem) => start(0xa4, id, 3).push([0x81, 1, problem]),
     }
 }
 
@@ -105,11 +84,10 @@ fn reject(reject: Reject) -> Component
 fn link_id_result(id: IntegerOctets, link: LinkId) -> Component
     ensures { AppendedTo blank result (answer_octets (LinkIdResult id link)) }
 {
-    let o = link.to_integer().to_octets();
+    let o = IntegerOctets::from(Integer::from(link));
     let len = 8 + integer_len(o);
     start(0xa2, id, len + 2)
-        .push(0x30)
-        .push(len)
+        .push([0x30, len])
         .push_object(0x04)
         .push_integer(o)
 }
@@ -119,7 +97,7 @@ pub fn write(answer: Answer) -> Component
 {
     match answer {
         Answer::Rejected(r) => reject(r),
-        Answer::Error(id, error) => start(0xa3, id, 3).push_octet(0x02, error),
+        Answer::Error(id, error) => start(0xa3, id, 3).push([0x02, 1, error]),
         Answer::LinkIdNotAssigned(id) => start(0xa3, id, 8).push_object(0x15),
         Answer::Result(id) => start(0xa2, id, 0),
         Answer::LinkIdResult(id, link) => link_id_result(id, link),

@@ -8,35 +8,35 @@ ghost use Rattle.component.specs.Reading.{ect_object, local_reading, link_id_rea
 ghost use Rattle.component.specs.Reading.{identified_reading, invoke_reading, framed_reading};
 
 use crate::{Operation, Reading, Reject};
-use elements::values::{FirstInteger, FirstObject, read_integer, read_object};
-use elements::{Elements, read_elements};
+use elements::are_elements;
+use elements::values::{read_integer, read_object};
 use octets::{Integer, IntegerOctets, LinkId};
 
+// The object identifier of the supplementary service with this last number.
+pub(crate) fn ect_object(last: u8) -> [u8; 6]
+    ensures { result ≡ ect_object last }
+{
+    [0x04, 0x00, 0x82, 0x71, 0x01, last]
+}
+
 // Whether an object identifier is that of the supplementary service, with this last number.
+#[tactic(auto, using(crate::proofs::ReadingLaws::pointwise_same))]
 pub fn is_ect_object(contents: &[u8], last: u8) -> bool
     ensures { result ≡ same_octets contents.now (ect_object last) }
 {
-    if contents.len() != 6 {
-        return false;
-    }
-    (contents[0] == 0x04)
-        & (contents[1] == 0x00)
-        & (contents[2] == 0x82)
-        & (contents[3] == 0x71)
-        & (contents[4] == 0x01)
-        & (contents[5] == last)
+    contents == ect_object(last).as_slice()
 }
 
 // The third element of an ExplicitEctExecute: a LinkId.
 pub fn read_link_id(id: IntegerOctets, s: &[u8]) -> Reading
     ensures { result ≡ link_id_reading id (integer_in (first_element s.now)) }
 {
-    let FirstInteger::Whole { octets, next: _ } = read_integer(s) else {
+    let Some((octets, _)) = read_integer(s) else {
         return Reading::Rejected(Reject::Invoke(id, 2));
     };
     Reading::Invoked(
         id,
-        Operation::ExplicitEctExecute(LinkId::from_integer(Integer::from_octets(octets))),
+        Operation::ExplicitEctExecute(LinkId::from(Integer::from(octets))),
     )
 }
 
@@ -44,7 +44,7 @@ pub fn read_link_id(id: IntegerOctets, s: &[u8]) -> Reading
 pub fn read_local(id: IntegerOctets, value: IntegerOctets) -> Reading
     ensures { result ≡ local_reading id value }
 {
-    if Integer::from_octets(value).same(Integer(6)) {
+    if Integer::from(value) == Integer(6) {
         return Reading::Invoked(id, Operation::EctExecute);
     }
     Reading::Rejected(Reject::Invoke(id, 1))
@@ -64,40 +64,42 @@ pub fn read_global(id: IntegerOctets, value: &[u8], rest: &[u8]) -> Reading
 }
 
 // The second element: an operation value.
+#[tactic(auto, unfolding(crate::specs::Reading::identified_reading))]
 pub fn read_operation(id: IntegerOctets, s: &[u8]) -> Reading
     ensures { result ≡ identified_reading id s.now }
 {
-    if let FirstInteger::Whole { octets, next: _ } = read_integer(s) {
+    if let Some((octets, _)) = read_integer(s) {
         return read_local(id, octets);
     }
-    let FirstObject::Whole { len } = read_object(s) else {
+    let Some((object, rest)) = read_object(s) else {
         return Reading::Rejected(Reject::General(id, 1));
     };
-    read_global(id, &s[2..len + 2], &s[len + 2..])
+    read_global(id, object, rest)
 }
 
 // The first element of an invoke's contents: the invoke identifier.
+#[tactic(auto, unfolding(crate::specs::Reading::invoke_reading))]
 pub fn read_invoke(s: &[u8]) -> Reading
     ensures { result ≡ invoke_reading s.now }
 {
-    let FirstInteger::Whole { octets, next } = read_integer(s) else {
+    let Some((octets, rest)) = read_integer(s) else {
         return Reading::Rejected(Reject::Null(1));
     };
-    read_operation(octets, &s[next..])
+    read_operation(octets, rest)
 }
 
 // The octets after the tag of an invoke: its length and its contents.
 pub fn read_framed(s: &[u8]) -> Reading
     ensures { result ≡ framed_reading s.now }
 {
-    if s.len() == 0 {
-        return Reading::Rejected(Reject::Null(2));
-    }
-    if s[0] as usize != s.len() - 1 {
-        return Reading::Rejected(Reject::Null(2));
-    }
-    let Elements::Whole = read_elements(&s[1..], 4) else {
+    let [len, contents @ ..] = s else {
         return Reading::Rejected(Reject::Null(2));
     };
-    read_invoke(&s[1..])
+    if *len as usize != contents.len() {
+        return Reading::Rejected(Reject::Null(2));
+    }
+    if !are_elements(contents, 4) {
+        return Reading::Rejected(Reject::Null(2));
+    }
+    read_invoke(contents)
 }

@@ -21,6 +21,7 @@ pub enum Operation {
 
 // A Reject, by its problem's number: with NULL in place of the invoke identifier and a general problem,
 // or with the identifier as received and a general or an invoke problem.
+// The problem is any number, as an error's is: `encode` is asked for any, and an enum would ask more of callers.
 #[derive(Clone, Copy)]
 pub enum Reject {
     Null(u8),
@@ -47,7 +48,7 @@ pub enum Answer {
     LinkIdResult(IntegerOctets, LinkId),
 }
 
-// A component to be sent: as many octets as the count says, then zeros.
+// A component to be sent: as many octets as the count says, then zeros, which is the form that a reply record has.
 #[derive(Clone, Copy)]
 pub struct Component {
     pub octets: [u8; 32],
@@ -55,23 +56,15 @@ pub struct Component {
 }
 
 // Reads a component of any length and content.
+#[tactic(auto, unfolding(crate::specs::Reading::reading))]
 pub fn read(component: &[u8]) -> Reading
     ensures { result ≡ reading component.now }
 {
-    if component.len() == 0 {
-        return Reading::Rejected(Reject::Null(0));
+    match component {
+        [0xa2..=0xa4, ..] => Reading::Ignored,
+        [0xa1, framed @ ..] => invoke::read_framed(framed),
+        _ => Reading::Rejected(Reject::Null(0)),
     }
-    let tag = component[0];
-    if 0xa2 <= tag {
-        if tag <= 0xa4 {
-            return Reading::Ignored;
-        }
-        return Reading::Rejected(Reject::Null(0));
-    }
-    if tag != 0xa1 {
-        return Reading::Rejected(Reject::Null(0));
-    }
-    invoke::read_framed(&component[1..])
 }
 
 // The octets of an answer.

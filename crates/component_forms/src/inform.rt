@@ -1,26 +1,21 @@
 // Components as a private exchange sends them: what they say as EctInform invokes.
 use crate::text;
-use private_transfers::{Indication, NumberForm, read_inform};
+use private_transfers::{Indication, RedirectionNumber, read_inform};
 use std::io;
 
 fn case(rt: &impl Print, words: &str, component: &[u8]) -> io::Result<()> {
-    let said = read_inform(component);
-    let number = said.number;
-    let indication = said.indication;
-    let form = number.form;
     text(rt, words)?;
-    match indication {
+    let Some(said) = read_inform(component) else {
+        return text(rt, ": no such invoke\n");
+    };
+    match said.indication {
         Indication::Alerting => text(rt, ": alerting")?,
         Indication::Active => text(rt, ": active")?,
-        Indication::NoInform => text(rt, ": no such invoke")?,
     }
-    match form {
-        NumberForm::NotSent => text(rt, "\n"),
-        NumberForm::Restricted => text(rt, ", restricted\n"),
-        NumberForm::Given => {
-            let count = number.count;
-            print!(rt; ", {count} digits\n")
-        }
+    match said.number {
+        RedirectionNumber::NotSent => text(rt, "\n"),
+        RedirectionNumber::Restricted => text(rt, ", restricted\n"),
+        RedirectionNumber::Given { count, digits: _ } => print!(rt; ", {count} digits\n"),
     }
 }
 

@@ -3,24 +3,20 @@
 
 ghost use Rattle.std.specs.Prelude.{◌≡◌};
 ghost use Rattle.octets.specs.Lists.{all};
-ghost use Rattle.digits.specs.Digits.{is_digit, in_fifteen};
+ghost use Rattle.digits.specs.Digits.{is_digit, in_fifteen, zeros};
 
 // Whether each octet is a digit.
 pub fn all_digits(s: &[u8]) -> bool
     ensures { result ≡ all is_digit s.now }
 {
-    let mut i = 0;
-    while i < s.len() {
-        let octet = s[i];
-        if octet < 48 {
-            return false;
-        }
-        if 57 < octet {
-            return false;
-        }
-        i += 1;
-    }
-    true
+    s.iter().all(|octet| octet.is_ascii_digit())
+}
+
+// Whether each octet is zero, as those behind digits or a component are.
+pub fn all_zeros(s: &[u8]) -> bool
+    ensures { result ≡ zeros s.now }
+{
+    s.iter().all(|octet| *octet == 0)
 }
 
 // The octets in front of zeros, 15 in all.
@@ -28,11 +24,7 @@ pub fn in_fifteen(s: &[u8]) -> [u8; 15]
     ensures { result ≡ in_fifteen s.now }
 {
     let mut digits = [0u8; 15];
-    for i in 0..15 {
-        if s.len() <= i {
-            return digits;
-        }
-        digits[i] = s[i];
-    }
+    let len = s.len().min(15);
+    digits[..len].copy_from_slice(&s[..len]);
     digits
 }

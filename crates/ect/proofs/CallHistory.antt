@@ -1,5 +1,6 @@
 -- Demand 3 over the contracts: of the board that `board::fresh` returned, and of what every chain of calls of `step` returned and left in its buffers.
 use Prim.{tt}
+use Rattle.std.specs.Prelude.{Result}
 use Prim.Native.Nat.{ℕ}
 use mathlib.Core.Path.{◌≡◌, ◌∙◌, ap, ap₂, refl, sym, subst}
 use mathlib.Core.Bool.{false}
@@ -12,8 +13,8 @@ use contract.Lifetimes.{Lfts}
 use Rattle.octets.proofs.Lent.{lent, lent_shared}
 use Rattle.octets.proofs.Lists.{is_true, is_not}
 use Rattle.board.specs.declared.Board.{Board}
-use Rattle.board.specs.declared.Made.{Made}
-use Rattle.board.specs.Making.{fresh}
+use Rattle.board.specs.declared.BadOptions.{BadOptions}
+use Rattle.board.specs.Making.{Made, made_answer, fresh}
 use Rattle.rules.specs.Book.{fresh_book}
 use Rattle.rules.specs.History.{stepped, returns, board_at, accepted}
 use Rattle.rules.specs.Replies.{error_octets, octets}
@@ -84,9 +85,13 @@ returned_numbers b (c ∷ cs) h =
 
 -- ---- the theorem
 
--- for all option octets, whatever `fresh` returned by its contract, and for every chain of calls that begins with that board
-pub calls_history : (s a : ℕ) (made : Made) → fresh-contract.Post tt (s, (a, tt)) made (s, (a, tt)) →
-    (calls : List StepCall) → Chain made.board calls → CallHistory made.board (fresh_book s a) calls
+-- the board that making returned, also where it refused
+abbrev pub board_in : Result Board BadOptions → Board
+board_in made = (made_answer made).board
+
+-- for all option octets, whatever `fresh` returned by its contract, and for every chain of calls that begins with the board in it
+pub calls_history : (s a : ℕ) (made : Result Board BadOptions) → fresh-contract.Post tt (s, (a, tt)) made (s, (a, tt)) →
+    (calls : List StepCall) → Chain (board_in made) calls → CallHistory (board_in made) (fresh_book s a) calls
 calls_history s a made f calls h =
     let w = whole_history s a (events calls) in
     record {
@@ -103,11 +108,11 @@ calls_history s a made f calls h =
       sound_board = rw board_at_lem w.sound_board;
     }
   where
-    board_at_lem : last_board made.board calls ≡ board_at (fresh s a).board (events calls)
-    board_at_lem = last_board_lem made.board calls h ∙ ap (λ (m : Made). board_at m.board (events calls)) (fresh_promise s a made f)
+    board_at_lem : last_board (board_in made) calls ≡ board_at (fresh s a).board (events calls)
+    board_at_lem = last_board_lem (board_in made) calls h ∙ ap (λ (m : Made). board_at m.board (events calls)) (fresh_promise s a made f)
 
     numbers_are : map number_returned calls ≡ returns (fresh s a).board (events calls)
-    numbers_are = returned_numbers made.board calls h ∙ ap (λ (m : Made). returns m.board (events calls)) (fresh_promise s a made f)
+    numbers_are = returned_numbers (board_in made) calls h ∙ ap (λ (m : Made). returns m.board (events calls)) (fresh_promise s a made f)
 
-    at : (pre post : List StepCall) (c : StepCall) → calls ≡ pre ++ (c ∷ post) → StepContractMet (last_board made.board pre) c
-    at pre post c p = met_at made.board pre post c (subst (Chain made.board) p h)
+    at : (pre post : List StepCall) (c : StepCall) → calls ≡ pre ++ (c ∷ post) → StepContractMet (last_board (board_in made) pre) c
+    at pre post c p = met_at (board_in made) pre post c (subst (Chain (board_in made)) p h)

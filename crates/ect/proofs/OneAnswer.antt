@@ -1,4 +1,5 @@
 -- A board and an event have one answer, over the contract of `step` (document 02, slip 3).
+use Rattle.std.specs.Prelude.{Result, Ok, Err}
 use Prim.Native.Nat.{ℕ, ◌≤◌}
 use native.Mathlib.Omega.{arith}
 use borrow.Author.Tests.{ltb-true, ltb-false}
@@ -9,23 +10,22 @@ use lib.Dec.{ltb}
 use lib.ListN.{length}
 use Rattle.board.specs.declared.Board.{Board}
 use Rattle.board.specs.Soundness.{sound}
+use Rattle.events.specs.declared.Refusal.{Refusal}
 use Rattle.events.proofs.RefusalNumbers.{refusal_injective, refusal_not_zero}
 use Rattle.rules.specs.History.{stepped}
 use Rattle.rules.specs.Replies.{octets}
 use Rattle.rules.specs.Step.{Outcome, step}
 use Rattle.ect.specs.CallHistory.{StepCall, number_returned, written, event_of}
 use Rattle.ect.specs.Contract.{answer_number, answer_count}
-use Rattle.ect.specs.declared.StepAnswer.{StepAnswer}
-use Rattle.ect.specs.declared.StepAnswer.TheVariants.{Accepted, Refused}
 use Rattle.ect.proofs.StepLaws.{small, enough}
 use Rattle.ect.proofs.CallHistory.{StepContractMet, outcome, replies_are}
 
 -- number and count say which answer it is
-same_answer : (a c : StepAnswer) → answer_number a ≡ answer_number c → answer_count a ≡ answer_count c → a ≡ c
-same_answer (Accepted n) (Accepted m) e f = ap Accepted f
-same_answer (Accepted n) (Refused d) e f = absurd (omega (arith, e, refusal_not_zero d))
-same_answer (Refused d) (Accepted n) e f = absurd (omega (arith, e, refusal_not_zero d))
-same_answer (Refused c) (Refused d) e f = ap Refused (refusal_injective c d e)
+same_answer : (a c : Result ℕ Refusal) → answer_number a ≡ answer_number c → answer_count a ≡ answer_count c → a ≡ c
+same_answer (Ok n) (Ok m) e f = ap Ok f
+same_answer (Ok n) (Err d) e f = absurd (omega (arith, e, refusal_not_zero d))
+same_answer (Err d) (Ok n) e f = absurd (omega (arith, e, refusal_not_zero d))
+same_answer (Err c) (Err d) e f = ap Err (refusal_injective c d e)
 
 -- with 128 octets or more the length of the buffer makes no difference
 same_outcome : (b : Board) (os : List ℕ) (n m : ℕ) → 128 ≤ n → 128 ≤ m → step b os n ≡ step b os m
@@ -41,7 +41,7 @@ module _ (b : Board) (c d : StepCall) (same : c.event ≡ d.event) (h : StepCont
       let number = (outcome h).answer ∙ ap (λ (o : Outcome). o.returned) e ∙ sym (outcome k).answer in
       let count = (outcome h).count ∙ ap (λ (o : Outcome). length (octets o.replies)) e ∙ sym (outcome k).count in
       let board = (outcome h).board ∙ ap (λ (o : Outcome). o.board) e ∙ sym (outcome k).board in (
-        ap₂ (λ (a : StepAnswer) (x : Board). record { answer = a; board = x }) (same_answer c.returned.answer d.returned.answer number count) board,
+        ap₂ (λ (a : Result ℕ Refusal) (x : Board). record { answer = a; board = x }) (same_answer c.returned.answer d.returned.answer number count) board,
         replies_are (outcome h) ∙ ap (λ (o : Outcome). octets o.replies) e ∙ sym (replies_are (outcome k)),
       )
 

@@ -1,30 +1,27 @@
 -- The outcome of the rules by the tests that lead to it, and what the code shows of it.
 use borrow.Author.Tests.{lt-ltb, le-ltb}
+use Rattle.std.specs.Prelude.{Result, Ok, Err}
+use native.Mathlib.Omega.{arith}
 use Prim.Native.Nat.{◌<◌, ◌≤◌, ℕ}
-use mathlib.Core.Path.{◌∙◌, ap, refl, subst, subst⁻¹, ◌≡◌}
+use mathlib.Core.Path.{◌∙◌, ap, refl, sym, subst, subst⁻¹, ◌≡◌}
 use mathlib.Core.Bool.{Bool, cond, false, true}
 use mathlib.Core.List.{List}
 use lib.ListN.{length}
 use Rattle.octets.specs.Buffers.{front_written}
 use Rattle.board.specs.Soundness.{sound}
 use Rattle.board.specs.declared.Board.{Board}
-use Rattle.ect.specs.Contract.{OutcomeOf, Steps, StepsTested, answer_number, answer_count}
-use Rattle.effects.specs.Code.Effects.{EffectOf, acceptance_of, board_by}
-use Rattle.effects.proofs.EffectLaws.{acceptance_is, board_is, out_is}
-use Rattle.ect.specs.Code.Answering.{answer_to}
-use Rattle.replies.specs.declared.Out.{Out}
+use Rattle.ect.specs.Contract.{OutcomeOf, Steps, StepsTested}
+use Rattle.effects.specs.Code.Effects.{EffectOf, effect, effect_by, change_in, board_by}
+use Rattle.effects.proofs.EffectLaws.{change_board}
 use Rattle.replies.specs.Code.Writing.{rendered, written}
-use Rattle.replies.proofs.WritingLaws.{rendered_len, rendered_written, rendered_fits}
-use Rattle.ect.specs.declared.StepAnswer.{StepAnswer}
-use Rattle.ect.specs.declared.StepAnswer.TheVariants.{Refused}
+use Rattle.replies.proofs.WritingLaws.{rendered_written}
 use Rattle.ect.specs.declared.Stepped.{Stepped}
 use Rattle.events.specs.declared.Refusal.{Refusal}
 use Rattle.rules.specs.Checks.{Refuse, Accept, Decision, returned_by}
 use Rattle.events.specs.Refusals.{refusal_number}
-use Rattle.rules.specs.Replies.{ReplyRecord, octets}
-use Rattle.rules.specs.Step.{replies, step, step_tested, refused, Outcome, done, decision}
+use Rattle.rules.specs.Replies.{octets, number_at}
+use Rattle.rules.specs.Step.{replies, board_after, rows_after, candidate_after, step, step_tested, refused, Outcome, done, decision}
 use Rattle.events.specs.declared.Refusal.TheVariants as refusal
-use Rattle.effects.specs.declared.Acceptance.{Acceptance}
 use Rattle.effects.specs.declared.Effect.{Effect}
 
 -- ---- the outcome
@@ -40,25 +37,38 @@ module _ (tested : Bool) (b : Board) (os : List ℕ) (room : ℕ) where
 
 -- ---- what is shown of it
 
-abbrev pub stepped : StepAnswer → Board → Stepped
+abbrev pub stepped : Result ℕ Refusal → Board → Stepped
 stepped a b = record { answer = a; board = b }
 
-outcome_refused : (c : Refusal) (b : Board) (before : List ℕ) → OutcomeOf (refused (refusal_number c) b) before (stepped (Refused c) b) before
+outcome_refused : (c : Refusal) (b : Board) (before : List ℕ) → OutcomeOf (refused (refusal_number c) b) before (stepped (Err c) b) before
 unfolding octets
 outcome_refused c b before = record { answer = refl; count = refl; board = refl; buffer = refl }
 
 outcome_is : {o p : Outcome} {before : List ℕ} {r : Stepped} {after : List ℕ} → o ≡ p → OutcomeOf p before r after → OutcomeOf o before r after
 outcome_is {before = before} {r = r} {after = after} h k = subst⁻¹ (λ (x : Outcome). OutcomeOf x before r after) h k
 
-copied : {o : Out} (rs : List ReplyRecord) {b : List ℕ} (before : List ℕ) → o ≡ rendered rs → b ≡ front_written (written o) before → b ≡ front_written (octets rs) before
-copied rs before s e = e ∙ ap (λ (l : List ℕ). front_written l before) (ap written s ∙ rendered_written rs)
+-- ---- what an effect shows of its decision
 
-written_len : {e : Effect} {b : Board} {d : Decision} → EffectOf e b d → e.out.len ≡ length (octets (replies b.rows d))
-written_len {b = b} {d = d} k = ap (λ (o : Out). o.len) (out_is k) ∙ rendered_len (replies b.rows d)
+module _ (b : Board) where
+  refuses : (d : Decision) {c : Refusal} → Err c ≡ effect_by b.rows d → d ≡ Refuse c
+  refuses (Refuse r) {c} e = let z : c ≡ r = cc in sym (ap Refuse z)
+  refuses (Accept x w) e = let z : ◌≡◌ {A = ℕ} 0 1 = cc in absurd (omega arith)
 
--- the replies fit their array, whatever the board
-pub fits : {e : Effect} {b : Board} {d : Decision} → length e.out.octets ≡ 128 → EffectOf e b d → e.out.len ≤ 128
-fits {b = b} {d = d} l k = rendered_fits (replies b.rows d) (out_is k) l
+  pub record Done (d : Decision) (e : Effect) : Type 0 where
+    pub returned : returned_by d ≡ 0
+    pub board : board_by e.change b ≡ board_after d b
+    pub octets_are : written e.out ≡ octets (replies b.rows d)
+
+  accepts : (d : Decision) {e : Effect} → Ok e ≡ effect_by b.rows d → Done d e
+  unfolding board_after replies
+  accepts (Refuse r) h = let z : ◌≡◌ {A = ℕ} 0 1 = cc in absurd (omega arith)
+  accepts (Accept x w) {e} h =
+      let z : e ≡ effect (change_in x) (rendered (w (number_at b.rows))) = cc in
+      record {
+        returned = refl;
+        board = ap (λ (v : Effect). board_by v.change b) z ∙ change_board x b;
+        octets_are = ap (λ (v : Effect). written v.out) z ∙ rendered_written (w (number_at b.rows));
+      }
 
 -- the test handed in is the board's own
 pub own_test : (b : Board) (os before after : List ℕ) (r : Stepped) {tested : Bool} → tested ≡ sound b → StepsTested tested b os before r after → Steps b os before r after
@@ -66,31 +76,31 @@ unfolding step
 own_test b os before after r e s = subst (λ (x : Bool). StepsTested x b os before r after) e s
 
 module _ (b : Board) (os before : List ℕ) where
-  pub too_small : (tested : Bool) → length before < 128 → StepsTested tested b os before (stepped (Refused refusal.BufferTooSmall) b) before
+  pub too_small : (tested : Bool) → length before < 128 → StepsTested tested b os before (stepped (Err refusal.BufferTooSmall) b) before
   too_small tested h = outcome_is (small tested b os (length before) h) (outcome_refused refusal.BufferTooSmall b before)
 
   module _ (h : 128 ≤ length before) where
-    pub not_sound : {tested : Bool} → tested ≡ false → StepsTested tested b os before (stepped (Refused refusal.UnsoundBoard) b) before
+    pub not_sound : {tested : Bool} → tested ≡ false → StepsTested tested b os before (stepped (Err refusal.UnsoundBoard) b) before
     not_sound t = rw t (outcome_is (enough false b os (length before) h) (outcome_refused refusal.UnsoundBoard b before))
 
-    answer_by : (d : Decision) (n : ℕ) → answer_number (answer_to (acceptance_of d) n) ≡ returned_by d
-    answer_by (Refuse r) n = refl
-    answer_by (Accept c w) n = refl
+    -- a decision that refuses
+    pub step_refused : {tested : Bool} → tested ≡ true → {c : Refusal} → EffectOf (Err c) b (decision b os) → StepsTested tested b os before (stepped (Err c) b) before
+    unfolding board_after rows_after candidate_after replies
+    step_refused t {c} k =
+        rw t
+        (outcome_is (enough true b os (length before) h ∙ ap (done b) (refuses b (decision b os) k.is))
+        (outcome_refused c b before))
 
-    count_by : (d : Decision) (n : ℕ) → n ≡ length (octets (replies b.rows d)) → answer_count (answer_to (acceptance_of d) n) ≡ length (octets (replies b.rows d))
-    unfolding octets replies
-    count_by (Refuse r) n h = refl
-    count_by (Accept c w) n h = h
-
-    pub step_done : {tested : Bool} → tested ≡ true → {e : Effect} → EffectOf e b (decision b os) → {n : ℕ} {a : StepAnswer} {b' : Board} {after : List ℕ} →
-        n ≡ e.out.len → after ≡ front_written (written e.out) before → a ≡ answer_to e.acceptance n → b' ≡ board_by e.change e.row b → StepsTested tested b os before (stepped a b') after
-    step_done t k {n} m q v w =
-        let d = decision b os in
-        let u = v ∙ ap (λ (x : Acceptance). answer_to x n) (acceptance_is k) in
+    -- one that accepts
+    pub step_done : {tested : Bool} → tested ≡ true → {e : Effect} → EffectOf (Ok e) b (decision b os) → {os' : List ℕ} {n : ℕ} {b' : Board} {after : List ℕ} →
+        os' ≡ written e.out → n ≡ length os' → after ≡ front_written os' before → b' ≡ board_by e.change b → StepsTested tested b os before (stepped (Ok n) b') after
+    step_done t k x m q w =
+        let d = accepts b (decision b os) k.is in
+        let y = x ∙ d.octets_are in
         rw t (outcome_is (enough true b os (length before) h)
         (record {
-          answer = ap answer_number u ∙ answer_by d n;
-          count = ap answer_count u ∙ count_by d n (m ∙ written_len k);
-          board = w ∙ board_is k;
-          buffer = copied (replies b.rows d) before (out_is k) q;
+          answer = sym d.returned;
+          count = m ∙ ap length y;
+          board = w ∙ d.board;
+          buffer = q ∙ ap (λ (l : List ℕ). front_written l before) y;
         }))

@@ -1,6 +1,5 @@
 -- Whole lists of calls of `step` on a board that begins fresh: demand 3 of the values that the code returned (document 01, "The book").
-use Rattle.std.specs.Prelude.{ℕ, ◌≡◌, ◌↔◌, true, not, List, [], ◌∷◌, ◌++◌, map, eqb, T, length, take}
-use Rattle.std.proofs.Math.Option.{none, some}
+use Rattle.std.specs.Prelude.{ℕ, ◌≡◌, ◌↔◌, true, not, List, [], ◌∷◌, ◌++◌, map, eqb, T, length, take, None, Some}
 use Rattle.octets.specs.Lists.{all, distinct}
 use Rattle.board.specs.declared.Board.{Board}
 use Rattle.board.specs.declared.Call.{Call}
@@ -56,8 +55,8 @@ pub record CallHistory (b : Board) (k : Book) (calls : List StepCall) : Type 0 w
   pub presence : (l : ℕ) → T (on_board (last_board b calls) l) ↔ Lives k (history k (events calls)) l
   -- "it has the partner, and is that one's partner, to whom a transfer has joined it since, or else one call with the served user"
   pub partner : (l : ℕ) (v : Lives k (history k (events calls)) l) →
-      EachSince v (λ k' e. (m : ℕ) → transfer_of k' e l ≡ some m → Partners (last_board b calls) l m)
-      × (EachSince v (λ k' e. transfer_of k' e l ≡ none) → (c : Call) × HasRow (last_board b calls) l (WithUser c))
+      EachSince v (λ k' e. (m : ℕ) → transfer_of k' e l ≡ Some m → Partners (last_board b calls) l m)
+      × (EachSince v (λ k' e. transfer_of k' e l ≡ None) → (c : Call) × HasRow (last_board b calls) l (WithUser c))
   -- "no two live LinkIds are equal"
   pub link_ids : T (distinct same_link_ids (taken (last_board b calls).rows))
   -- "wherever in the list an event was answered with an error, the whole board stayed as that event found it"

@@ -1,23 +1,22 @@
 -- What `step` promises: the answer, the board and the buffer of the rules' outcome (demands 1 and 2).
-use Rattle.std.specs.Prelude.{ℕ, ◌≡◌, Bool, List, length}
+use Rattle.std.specs.Prelude.{ℕ, ◌≡◌, Bool, List, length, Result, Ok, Err}
 use Rattle.octets.specs.Buffers.{front_written}
 use Rattle.board.specs.declared.Board.{Board}
+use Rattle.events.specs.declared.Refusal.{Refusal}
 use Rattle.events.specs.Refusals.{refusal_number}
 use Rattle.rules.specs.Replies.{octets}
 use Rattle.rules.specs.Step.{Outcome, step, step_tested}
-use Rattle.ect.specs.declared.StepAnswer.{StepAnswer}
-use Rattle.ect.specs.declared.StepAnswer.TheVariants.{Accepted, Refused}
 use Rattle.ect.specs.declared.Stepped.{Stepped}
 
 -- the number that an answer stands for: "Accepted events return 0", and the table of refusals
-abbrev pub answer_number : StepAnswer → ℕ
-answer_number (Accepted n) = 0
-answer_number (Refused c) = refusal_number c
+abbrev pub answer_number : Result ℕ Refusal → ℕ
+answer_number (Ok n) = 0
+answer_number (Err c) = refusal_number c
 
 -- "and the number of octets written"; "with a refusal that number is 0"
-abbrev pub answer_count : StepAnswer → ℕ
-answer_count (Accepted n) = n
-answer_count (Refused c) = 0
+abbrev pub answer_count : Result ℕ Refusal → ℕ
+answer_count (Ok n) = n
+answer_count (Err c) = 0
 
 -- what the exchange program gets of an outcome: the answer, the board, and the buffer, which "keeps what lies beyond the octets written"
 pub record OutcomeOf (o : Outcome) (before : List ℕ) (r : Stepped) (after : List ℕ) : Type 0 where

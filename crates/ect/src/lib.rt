@@ -3,52 +3,49 @@
 
 ghost use Rattle.std.specs.Prelude.{◌≤◌, ◌≡◌, length};
 ghost use Rattle.octets.specs.Buffers.{front_written};
-ghost use Rattle.replies.specs.Code.Writing.{written};
 ghost use Rattle.ect.specs.Contract.{Steps, StepsTested};
-ghost use Rattle.ect.specs.Code.Answering.{answer_to};
+ghost use Rattle.ect.specs.Code.Answering.{Accepts};
 
 use board::Board;
-use effects::{Acceptance, done, effect_of};
+use effects::{done, effect_of};
 use events::Refusal;
-use replies::Out;
 use soundness::sound;
 
-// Accepted, with the number of octets written; or refused.
-#[derive(Clone, Copy)]
-pub enum StepAnswer {
-    Accepted(usize),
-    Refused(Refusal),
-}
-
+// The answer to an event, the number of octets written where it is accepted, and the board.
 #[derive(Clone, Copy)]
 pub struct Stepped {
-    pub answer: StepAnswer,
+    pub answer: Result<usize, Refusal>,
     pub board: Board,
 }
 
-// A refused event has written no octets.
-fn answer_to(acceptance: Acceptance, n: usize) -> StepAnswer
-    ensures { result ≡ answer_to acceptance n }
+// Copies octets to the front of a buffer, keeps what lies beyond, and returns how many they are.
+fn copy_out(reply: &mut [u8], octets: &[u8]) -> usize
+    requires { length octets.now ≤ length reply.old }
+    ensures { (result ≡ length octets.now) × (reply.new ≡ front_written octets.now reply.old) }
 {
-    match acceptance {
-        Acceptance::Accepted => StepAnswer::Accepted(n),
-        Acceptance::Refused(refusal) => StepAnswer::Refused(refusal),
-    }
+    let n = octets.len();
+    reply[..n].copy_from_slice(octets);
+    n
 }
 
-// Copies what is written to the front of a buffer, keeps what lies beyond, and returns how many octets that is.
-fn copy_out(reply: &mut [u8], out: Out) -> usize
-    requires { (out.len ≤ 128) × (out.len ≤ length reply.old) }
-    ensures { (result ≡ out.len) × (reply.new ≡ front_written (written out) reply.old) }
+// How many octets are written and the board after the event, where no check refuses it.
+fn accepted(
+    board: Board,
+    is_sound: bool,
+    event: &[u8],
+    reply: &mut [u8],
+) -> Result<(usize, Board), Refusal>
+    ensures { Accepts is_sound board event.now reply.old result reply.new }
 {
-    let n = out.len;
-    let octets = out.octets;
-    let mut i = 0;
-    while i < n {
-        reply[i] = octets[i];
-        i += 1;
+    if reply.len() < 128 {
+        return Err(Refusal::BufferTooSmall);
     }
-    n
+    if !is_sound {
+        return Err(Refusal::UnsoundBoard);
+    }
+    let effect = effect_of(board, event)?;
+    let n = copy_out(reply, effect.out.octets.as_slice());
+    Ok((n, done(board, effect.change)))
 }
 
 // The board after the event, with the replies in the front of the buffer; or a refusal that leaves both.
@@ -64,25 +61,14 @@ pub fn step(board: Board, event: &[u8], reply: &mut [u8]) -> Stepped
 pub fn step_tested(board: Board, is_sound: bool, event: &[u8], reply: &mut [u8]) -> Stepped
     ensures { StepsTested is_sound board event.now reply.old result reply.new }
 {
-    if reply.len() < 128 {
-        return Stepped {
-            answer: StepAnswer::Refused(Refusal::BufferTooSmall),
+    match accepted(board, is_sound, event, reply) {
+        Ok((n, board)) => Stepped {
+            answer: Ok(n),
             board,
-        };
-    }
-    if !is_sound {
-        return Stepped {
-            answer: StepAnswer::Refused(Refusal::UnsoundBoard),
+        },
+        Err(refusal) => Stepped {
+            answer: Err(refusal),
             board,
-        };
-    }
-    // A refusal takes the same way, with no replies and nothing done: a branch of its own would copy the board.
-    let effect = effect_of(board, event);
-    let out = effect.out;
-    let n = copy_out(reply, out);
-    let acceptance = effect.acceptance;
-    Stepped {
-        answer: answer_to(acceptance, n),
-        board: done(board, effect),
+        },
     }
 }

@@ -3,14 +3,14 @@
 #![tactic(auto)]
 
 use board::{Board, Options};
-use ect::{StepAnswer, Stepped};
-use events::refusal_number;
-use show::{decimal, text};
+use ect::Stepped;
+use records::{leg_facility, open};
+use show::Returned;
 use std::io;
-use subaddress::leg_facility;
 
 mod invoking;
 mod padding;
+mod records;
 mod sample;
 mod show;
 mod subaddress;
@@ -18,19 +18,7 @@ mod transfer;
 
 // Prints what a step returned, and hands its board on.
 fn report(rt: &impl Print, words: &str, stepped: Stepped) -> io::Result<Board> {
-    text(rt, words)?;
-    let answer = stepped.answer;
-    match answer {
-        StepAnswer::Accepted(n) => {
-            text(rt, ": 0, octets ")?;
-            decimal(rt, n as u64)?;
-        }
-        StepAnswer::Refused(refusal) => {
-            text(rt, ": ")?;
-            decimal(rt, refusal_number(refusal) as u64)?;
-        }
-    }
-    text(rt, "\n")?;
+    println!(rt; "{words}: {}", Returned(stepped.answer))?;
     Ok(stepped.board)
 }
 
@@ -39,98 +27,76 @@ fn run(rt: &impl Print, board: Board, words: &str, event: &[u8]) -> io::Result<B
     report(rt, words, ect::step(board, event, &mut reply))
 }
 
+// An outgoing Open of a reference and a leg.
+fn outgoing(reference: u8, leg: u8) -> [u8; 25] {
+    open(reference, leg, false, *b"21")
+}
+
 // A board with 64 legs.
 fn full(fresh: Board) -> Board {
     let mut board = fresh;
-    let mut event = [0u8; 25];
-    event[0] = 1;
     let mut reply = [0u8; 128];
     for k in 1..65u8 {
-        event[2] = k;
-        event[6] = k;
-        let stepped = ect::step(board, &event, &mut reply);
-        board = stepped.board;
+        board = ect::step(board, &outgoing(k, k), &mut reply).board;
     }
     board
 }
 
 // The refusals that stand before the record is looked at, and those of records.
 fn before_the_board(rt: &impl Print, fresh: Board) -> io::Result<()> {
+    let event = outgoing(1, 1);
     let mut small = [0u8; 127];
     report(
         rt,
         "buffer of 127 octets",
-        ect::step(
-            fresh,
-            b"\x01\x00\x01\x00\x00\x00\x01\x00\x00\x02\x32\x31\x00\x00\x00\x00\x00\x00\x00\x00\x00\x00\x00\x00\x00",
-            &mut small,
-        ),
+        ect::step(fresh, &event, &mut small),
     )?;
     let options = Options {
         subscribed: 2,
         alerting: 0,
     };
     let bad = Board { options, ..fresh };
-    run(
-        rt,
-        bad,
-        "board that is not sound",
-        b"\x01\x00\x01\x00\x00\x00\x01\x00\x00\x02\x32\x31\x00\x00\x00\x00\x00\x00\x00\x00\x00\x00\x00\x00\x00",
-    )?;
-    run(rt, fresh, "empty record", b"")?;
-    run(rt, fresh, "record one octet short", b"\x02\x00\x01")?;
-    run(rt, fresh, "kind 10", b"\x0a")?;
-    run(rt, fresh, "Progress to state 7", b"\x02\x00\x01\x07")?;
-    run(rt, fresh, "reference 8000", b"\x02\x80\x00\x0a")?;
+    run(rt, bad, "board that is not sound", &event)?;
+    let cases: [(&str, &[u8]); 5] = [
+        ("empty record", b""),
+        ("record one octet short", b"\x02\x00\x01"),
+        ("kind 10", b"\x0a"),
+        ("Progress to state 7", b"\x02\x00\x01\x07"),
+        ("reference 8000", b"\x02\x80\x00\x0a"),
+    ];
+    for (words, event) in cases {
+        run(rt, fresh, words, event)?;
+    }
     Ok(())
 }
 
-// The refusals that turn on the board.
+// The refusals that turn on the board, which has one leg or 64.
 fn on_the_board(rt: &impl Print, fresh: Board) -> io::Result<()> {
-    let one = run(
-        rt,
-        fresh,
-        "Open",
-        b"\x01\x00\x01\x00\x00\x00\x01\x00\x00\x02\x32\x31\x00\x00\x00\x00\x00\x00\x00\x00\x00\x00\x00\x00\x00",
-    )?;
-    run(
-        rt,
-        one,
-        "Open of a leg on the board",
-        b"\x01\x00\x02\x00\x00\x00\x01\x00\x00\x02\x32\x31\x00\x00\x00\x00\x00\x00\x00\x00\x00\x00\x00\x00\x00",
-    )?;
-    run(
-        rt,
-        one,
-        "Open of a reference in use",
-        b"\x01\x00\x01\x00\x00\x00\x02\x00\x00\x02\x32\x31\x00\x00\x00\x00\x00\x00\x00\x00\x00\x00\x00\x00\x00",
-    )?;
-    run(
-        rt,
-        full(fresh),
-        "Open with 64 legs",
-        b"\x01\x00\x50\x00\x00\x00\x50\x00\x00\x02\x32\x31\x00\x00\x00\x00\x00\x00\x00\x00\x00\x00\x00\x00\x00",
-    )?;
-    run(rt, one, "Progress of no call", b"\x02\x00\x02\x0a")?;
-    run(rt, one, "Hold of no call", b"\x03\x00\x02\x01")?;
-    run(rt, one, "Release of no leg", b"\x04\x00\x00\x00\x02")?;
-    run(rt, one, "Answer of no leg", b"\x06\x00\x00\x00\x02")?;
-    run(rt, one, "Hold in state 3", b"\x03\x00\x01\x01")?;
-    run(rt, one, "Answer of a served call", b"\x06\x00\x00\x00\x01")?;
-    run(rt, one, "Leg facility of no leg", &leg_facility(2, 3))?;
-    run(
-        rt,
-        one,
-        "Leg facility of a served call",
-        &leg_facility(1, 3),
-    )?;
-    run(rt, one, "Release", b"\x04\x00\x00\x00\x01")?;
+    let one = run(rt, fresh, "Open", &outgoing(1, 1))?;
+    run(rt, one, "Open of a leg on the board", &outgoing(2, 1))?;
+    run(rt, one, "Open of a reference in use", &outgoing(1, 2))?;
+    run(rt, full(fresh), "Open with 64 legs", &outgoing(80, 80))?;
+    let cases: [(&str, &[u8]); 9] = [
+        ("Progress of no call", b"\x02\x00\x02\x0a"),
+        ("Hold of no call", b"\x03\x00\x02\x01"),
+        ("Release of no leg", b"\x04\x00\x00\x00\x02"),
+        ("Answer of no leg", b"\x06\x00\x00\x00\x02"),
+        ("Hold in state 3", b"\x03\x00\x01\x01"),
+        ("Answer of a served call", b"\x06\x00\x00\x00\x01"),
+        ("Leg facility of no leg", &leg_facility(2, 3)),
+        ("Leg facility of a served call", &leg_facility(1, 3)),
+        ("Release", b"\x04\x00\x00\x00\x01"),
+    ];
+    for (words, event) in cases {
+        run(rt, one, words, event)?;
+    }
     Ok(())
 }
 
 fn main(rt: HostRuntime) -> io::Result<()> {
-    let made = board::fresh(1, 1);
-    let fresh = made.board;
+    let Ok(fresh) = board::fresh(1, 1) else {
+        return rt.println("an option is neither 0 nor 1");
+    };
     before_the_board(&rt, fresh)?;
     on_the_board(&rt, fresh)?;
     transfer::ward_transfer(&rt, fresh)?;

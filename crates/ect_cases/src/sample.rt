@@ -1,51 +1,37 @@
 // A board made, an event played on it, and the board asked for its counts and for a call.
-use crate::show::{decimal, front, text};
+use crate::records::padded;
+use crate::show::{Hex, front};
 use board::finding::lookup;
-use board::{Counted, Found};
-use ect::{StepAnswer, step};
+use ect::step;
 use events::refusal_number;
 use octets::CallReference;
 use soundness::count;
 use std::io;
 
 pub fn sample(rt: &impl Print) -> io::Result<()> {
-    let made = board::fresh(1, 1);
-    let mut reply = [0u8; 128];
+    let Ok(fresh) = board::fresh(1, 1) else {
+        return rt.println("an option is neither 0 nor 1");
+    };
     // Open: reference 5, leg 7, outgoing, shown, digits 21.
-    let stepped = step(
-        made.board,
-        b"\x01\x00\x05\x00\x00\x00\x07\x00\x00\x02\x32\x31\x00\x00\x00\x00\x00\x00\x00\x00\x00\x00\x00\x00\x00",
-        &mut reply,
-    );
-    let answer = stepped.answer;
+    let open: [u8; 25] = padded(b"\x01\x00\x05\x00\x00\x00\x07\x00\x00\x02\x32\x31");
+    let mut reply = [0u8; 128];
+    let stepped = step(fresh, &open, &mut reply);
     let board = stepped.board;
-    match answer {
-        StepAnswer::Accepted(n) => {
-            text(rt, "accepted ")?;
-            front(rt, n, &reply)?;
-        }
-        StepAnswer::Refused(refusal) => {
-            text(rt, "refused ")?;
-            decimal(rt, refusal_number(refusal) as u64)?;
-        }
+    match stepped.answer {
+        Ok(n) => println!(rt; "accepted {}", Hex(front(&reply, n)))?,
+        Err(refusal) => println!(rt; "refused {}", refusal_number(refusal))?,
     }
     match count(board) {
-        Counted::Counts { legs, pairs, links } => {
-            text(rt, "\nlegs ")?;
-            decimal(rt, legs as u64)?;
-            text(rt, ", pairs ")?;
-            decimal(rt, pairs as u64)?;
-            text(rt, ", LinkIds ")?;
-            decimal(rt, links as u64)?;
+        Ok(counts) => {
+            let legs = counts.legs;
+            let pairs = counts.pairs;
+            let links = counts.links;
+            println!(rt; "legs {legs}, pairs {pairs}, LinkIds {links}")?;
         }
-        Counted::Unsound => text(rt, "\nnot sound")?,
+        Err(_) => println!(rt; "not sound")?,
     }
     match lookup(board, CallReference(5)) {
-        Found::At(place) => {
-            text(rt, "\ncall 5 in row ")?;
-            decimal(rt, place as u64)?;
-        }
-        Found::Nothing => text(rt, "\nno call 5")?,
+        Some(place) => println!(rt; "call 5 in row {place}"),
+        None => println!(rt; "no call 5"),
     }
-    text(rt, "\n")
 }

@@ -1,36 +1,86 @@
-// Prints words, numbers, and octets in hex.
-use octets::Integer;
-use std::io;
-
-pub fn text(rt: &impl Print, words: &str) -> io::Result<()> {
-    rt.print(words)
-}
-
-pub fn decimal(rt: &impl Print, n: u64) -> io::Result<()> {
-    rt.print(n)
-}
-
-// A number that may be negative.
-pub fn signed(rt: &impl Print, integer: Integer) -> io::Result<()> {
-    let n = integer.to_bits();
-    if n < 32768 {
-        return decimal(rt, n as u64);
-    }
-    text(rt, "-")?;
-    decimal(rt, (65535 - n + 1) as u64)
-}
-
-pub fn hex(rt: &impl Print, octets: &[u8]) -> io::Result<()> {
-    for octet in octets {
-        print!(rt; "{octet:02x}")?;
-    }
-    Ok(())
-}
+// Octets in hex, and what the component's functions return, in the words of the cases.
+use component::{Answer, Operation, Reading};
+use events::{Refusal, refusal_number};
+use octets::{Integer, InvokeIdentifier};
+use std::fmt;
 
 // The first n octets, which are those that were written.
-pub fn front(rt: &impl Print, n: usize, octets: &[u8]) -> io::Result<()> {
-    if n <= octets.len() {
-        hex(rt, &octets[..n])?;
+pub fn front(octets: &[u8], n: usize) -> &[u8] {
+    octets.get(..n).unwrap_or(octets)
+}
+
+#[derive(Clone, Copy)]
+pub struct Hex<'a>(pub &'a [u8]);
+
+impl fmt::Display for Hex<'_> {
+    fn fmt<W: fmt::Write>(&self, f: &mut fmt::Formatter<W>) -> fmt::Result {
+        for octet in self.0 {
+            write!(f, "{octet:02x}")?;
+        }
+        Ok(())
     }
-    Ok(())
+}
+
+// The number that a step's answer stands for, and how many octets were written.
+#[derive(Clone, Copy)]
+pub struct Returned(pub Result<usize, Refusal>);
+
+impl fmt::Display for Returned {
+    fn fmt<W: fmt::Write>(&self, f: &mut fmt::Formatter<W>) -> fmt::Result {
+        match self.0 {
+            Ok(n) => write!(f, "0, octets {n}"),
+            Err(refusal) => write!(f, "{}", refusal_number(refusal)),
+        }
+    }
+}
+
+// A step's answer, with the replies that were written to a buffer.
+#[derive(Clone, Copy)]
+pub struct Replied<'a>(pub Result<usize, Refusal>, pub &'a [u8]);
+
+impl fmt::Display for Replied<'_> {
+    fn fmt<W: fmt::Write>(&self, f: &mut fmt::Formatter<W>) -> fmt::Result {
+        match self.0 {
+            Ok(n) => write!(f, "accepted {}", Hex(front(self.1, n))),
+            Err(refusal) => write!(f, "refused {}", refusal_number(refusal)),
+        }
+    }
+}
+
+// An operation, its identifier, and its LinkId where it has one.
+#[derive(Clone, Copy)]
+pub struct Invoke(pub Operation, pub InvokeIdentifier);
+
+impl fmt::Display for Invoke {
+    fn fmt<W: fmt::Write>(&self, f: &mut fmt::Formatter<W>) -> fmt::Result {
+        let identifier = self.1.0;
+        match self.0 {
+            Operation::EctExecute => write!(f, "EctExecute {identifier}"),
+            Operation::ExplicitEctExecute(link) => {
+                write!(f, "ExplicitEctExecute {identifier}, LinkId {}", link.0)
+            }
+            Operation::EctLinkIdRequest => write!(f, "EctLinkIdRequest {identifier}"),
+        }
+    }
+}
+
+// The invoke that a component is read as, or the octets of the Reject that answers.
+#[derive(Clone, Copy)]
+pub struct Read(pub Reading);
+
+impl fmt::Display for Read {
+    fn fmt<W: fmt::Write>(&self, f: &mut fmt::Formatter<W>) -> fmt::Result {
+        match self.0 {
+            Reading::Ignored => write!(f, "nothing"),
+            Reading::Rejected(reject) => {
+                let answer = component::encode(Answer::Rejected(reject));
+                let octets = front(&answer.octets, answer.count as usize);
+                write!(f, "Reject {}", Hex(octets))
+            }
+            Reading::Invoked(received, operation) => {
+                let identifier = InvokeIdentifier::from(Integer::from(received));
+                write!(f, "{}", Invoke(operation, identifier))
+            }
+        }
+    }
 }

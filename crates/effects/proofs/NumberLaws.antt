@@ -1,9 +1,9 @@
 -- The number of the party at a leg is that of the row found.
+use Rattle.std.specs.Prelude.{None, Option, Some}
 use Prim.Native.Nat.{ℕ}
 use mathlib.Core.Path.{◌∙◌, ◌≡◌, refl, ap, ap₂}
 use mathlib.Core.Bool.{◌&&◌, Bool, true, false}
 use mathlib.Core.List.{◌∷◌, List, []}
-use mathlib.Core.Option.{Option, none, some}
 use lib.Dec.{eqb}
 use Rattle.board.specs.Entries.{occupied}
 use Rattle.board.specs.Code.Keys.{matches_key}
@@ -27,5 +27,5 @@ pub number_found_lem : (l : ℕ) (rows : List Row) {row : Row} → row ≡ found
 number_found_lem l rows e = ap (λ (r : Row). number_as_told r.number) e ∙ go (find (matches_key (key.Leg l)) rows) ∙ ap number_of_row (row_at l rows)
   where
     go : (o : Option Row) → number_as_told (found_row o).number ≡ number_of_row o
-    go none = refl
-    go (some r) = refl
+    go None = refl
+    go (Some r) = refl

@@ -1,10 +1,10 @@
 // Progress and Hold: the call state, or the auxiliary state, of a call.
 ghost use Rattle.std.specs.Prelude.{◌≡◌};
 ghost use Rattle.rules.specs.Checks.{may_progress, may_hold, decide_progress, decide_hold};
-ghost use Rattle.effects.specs.Code.Effects.{EffectAnywhere, party_found};
+ghost use Rattle.effects.specs.Code.Effects.{EffectAnywhere};
 
-use crate::{ChangeKind, Effect, accept, refuse};
-use board::{AuxiliaryState, CallState, Change, FoundParty};
+use crate::{Effect, applied};
+use board::{AuxiliaryState, CallState, Change, Party};
 use events::Refusal;
 use octets::CallReference;
 use replies::nothing;
@@ -14,95 +14,50 @@ fn may_progress(from: CallState, to: CallState) -> bool
     ensures { result ≡ may_progress from to }
 {
     match from {
-        CallState::OutgoingCallProceeding => match to {
-            CallState::OutgoingCallProceeding => false,
-            CallState::CallDelivered => true,
-            CallState::CallReceived => false,
-            CallState::Active => true,
-        },
-        CallState::CallDelivered => match to {
-            CallState::OutgoingCallProceeding => false,
-            CallState::CallDelivered => false,
-            CallState::CallReceived => false,
-            CallState::Active => true,
-        },
-        CallState::CallReceived => match to {
-            CallState::OutgoingCallProceeding => false,
-            CallState::CallDelivered => false,
-            CallState::CallReceived => false,
-            CallState::Active => true,
-        },
-        CallState::Active => match to {
-            CallState::OutgoingCallProceeding => false,
-            CallState::CallDelivered => false,
-            CallState::CallReceived => false,
-            CallState::Active => false,
-        },
+        CallState::OutgoingCallProceeding => {
+            matches!(to, CallState::CallDelivered | CallState::Active)
+        }
+        CallState::CallDelivered | CallState::CallReceived => matches!(to, CallState::Active),
+        CallState::Active => false,
     }
 }
 
-pub fn progress(found: FoundParty, reference: CallReference, state: CallState) -> Effect
-    ensures { EffectAnywhere result (decide_progress reference.0 state (party_found found)) }
+pub fn progress(
+    found: Option<Party>,
+    reference: CallReference,
+    state: CallState,
+) -> Result<Effect, Refusal>
+    ensures { EffectAnywhere result (decide_progress reference.0 state found) }
 {
-    let FoundParty::This(party) = found else {
-        return refuse(Refusal::NoSuchCall);
-    };
-    let call = party.call;
-    let from = call.state;
-    if may_progress(from, state) {
-        return accept(
-            ChangeKind::Apply(Change::SetState(reference, state)),
-            nothing(),
-        );
+    let party = found.ok_or(Refusal::NoSuchCall)?;
+    if may_progress(party.call.state, state) {
+        return Ok(applied(Change::SetState(reference, state), nothing()));
     }
-    refuse(Refusal::NotPermitted)
+    Err(Refusal::NotPermitted)
 }
 
 fn may_hold(from: AuxiliaryState, to: AuxiliaryState) -> bool
     ensures { result ≡ may_hold from to }
 {
     match from {
-        AuxiliaryState::Idle => match to {
-            AuxiliaryState::Idle => false,
-            AuxiliaryState::HoldRequest => true,
-            AuxiliaryState::CallHeld => false,
-            AuxiliaryState::RetrieveRequest => false,
-        },
-        AuxiliaryState::HoldRequest => match to {
-            AuxiliaryState::Idle => true,
-            AuxiliaryState::HoldRequest => false,
-            AuxiliaryState::CallHeld => true,
-            AuxiliaryState::RetrieveRequest => false,
-        },
-        AuxiliaryState::CallHeld => match to {
-            AuxiliaryState::Idle => false,
-            AuxiliaryState::HoldRequest => false,
-            AuxiliaryState::CallHeld => false,
-            AuxiliaryState::RetrieveRequest => true,
-        },
-        AuxiliaryState::RetrieveRequest => match to {
-            AuxiliaryState::Idle => true,
-            AuxiliaryState::HoldRequest => false,
-            AuxiliaryState::CallHeld => true,
-            AuxiliaryState::RetrieveRequest => false,
-        },
+        AuxiliaryState::Idle => matches!(to, AuxiliaryState::HoldRequest),
+        AuxiliaryState::HoldRequest | AuxiliaryState::RetrieveRequest => {
+            matches!(to, AuxiliaryState::Idle | AuxiliaryState::CallHeld)
+        }
+        AuxiliaryState::CallHeld => matches!(to, AuxiliaryState::RetrieveRequest),
     }
 }
 
-pub fn hold(found: FoundParty, reference: CallReference, auxiliary: AuxiliaryState) -> Effect
-    ensures { EffectAnywhere result (decide_hold reference.0 auxiliary (party_found found)) }
+pub fn hold(
+    found: Option<Party>,
+    reference: CallReference,
+    auxiliary: AuxiliaryState,
+) -> Result<Effect, Refusal>
+    ensures { EffectAnywhere result (decide_hold reference.0 auxiliary found) }
 {
-    let FoundParty::This(party) = found else {
-        return refuse(Refusal::NoSuchCall);
-    };
-    let call = party.call;
-    let state = call.state;
-    let from = call.auxiliary;
-    if is_holdable(state) & may_hold(from, auxiliary) {
-        return accept(
-            ChangeKind::Apply(Change::SetAuxiliary(reference, auxiliary)),
-            nothing(),
-        );
+    let call = found.ok_or(Refusal::NoSuchCall)?.call;
+    if is_holdable(call.state) & may_hold(call.auxiliary, auxiliary) {
+        return Ok(applied(Change::SetAuxiliary(reference, auxiliary), nothing()));
     }
-    refuse(Refusal::NotPermitted)
+    Err(Refusal::NotPermitted)
 }

@@ -1,53 +1,38 @@
 // Release and Answer: a leg ends, or stops alerting.
 ghost use Rattle.rules.specs.Checks.{decide_release, decide_answer};
-ghost use Rattle.effects.specs.Code.Effects.{EffectOf, EffectAnywhere, entry_found};
+ghost use Rattle.effects.specs.Code.Effects.{EffectOf, EffectAnywhere};
 
-use crate::{ChangeKind, Effect, accept, number_at, refuse};
-use board::{Board, Change, Connection, FoundEntry};
+use crate::{Effect, applied, number_at};
+use board::{Board, Change, Connection, Entry};
 use events::Refusal;
 use replies::{answer_told, drop_notice, gone};
 
-pub fn release(found: FoundEntry) -> Effect
-    ensures { EffectAnywhere result (decide_release (entry_found found)) }
+pub fn release(found: Option<Entry>) -> Result<Effect, Refusal>
+    ensures { EffectAnywhere result (decide_release found) }
 {
-    let FoundEntry::This(entry) = found else {
-        return refuse(Refusal::NoSuchLeg);
-    };
-    let connection = entry.connection;
-    match connection {
+    let entry = found.ok_or(Refusal::NoSuchLeg)?;
+    Ok(match entry.connection {
         Connection::WithUser(call) => {
-            let reference = call.reference;
-            accept(
-                ChangeKind::Apply(Change::Release(entry.leg)),
-                drop_notice(reference),
-            )
+            applied(Change::Release(entry.leg), drop_notice(call.reference))
         }
         Connection::WithPartner {
             partner,
             alerting: _,
-        } => accept(
-            ChangeKind::Apply(Change::ReleasePair(entry.leg, partner)),
-            gone(partner),
-        ),
-    }
+        } => applied(Change::ReleasePair(entry.leg, partner), gone(partner)),
+    })
 }
 
-pub fn answer(board: Board, found: FoundEntry, leg: u32) -> Effect
-    ensures { EffectOf result board (decide_answer board.options leg (entry_found found)) }
+pub fn answer(board: Board, found: Option<Entry>, leg: u32) -> Result<Effect, Refusal>
+    ensures { EffectOf result board (decide_answer board.options leg found) }
 {
-    let FoundEntry::This(entry) = found else {
-        return refuse(Refusal::NoSuchLeg);
-    };
-    let connection = entry.connection;
-    let Connection::WithPartner { partner, alerting } = connection else {
-        return refuse(Refusal::NotPermitted);
-    };
-    if alerting {
-        let number = number_at(board, leg);
-        return accept(
-            ChangeKind::Apply(Change::EndAlerting(leg)),
-            answer_told(partner, number),
-        );
+    match found.ok_or(Refusal::NoSuchLeg)?.connection {
+        Connection::WithPartner {
+            partner,
+            alerting: true,
+        } => Ok(applied(
+            Change::EndAlerting(leg),
+            answer_told(partner, number_at(board, leg)),
+        )),
+        _ => Err(Refusal::NotPermitted),
     }
-    refuse(Refusal::NotPermitted)
 }

@@ -1,9 +1,10 @@
 // Facility: what its component comes to.
 ghost use Rattle.rules.specs.Checks.{service_decision};
+ghost use Rattle.std.specs.Prelude.{Ok};
 ghost use Rattle.effects.specs.Code.Effects.{Describes, EffectOf, facility_on};
 
-use crate::{ChangeKind, Effect, accept, number_at, refuse};
-use board::{Board, Change, FoundParty, Party};
+use crate::{Effect, applied, number_at, unchanged};
+use board::{Board, Change, Party};
 use component::Answer;
 use events::Refusal;
 use octets::{CallReference, IntegerOctets};
@@ -16,16 +17,11 @@ use serving::serve;
 fn far_party(board: Board, party: Party) -> FarParty
     ensures { Describes board.rows party result }
 {
-    let call = party.call;
-    let reference = call.reference;
-    let leg = party.leg;
-    let alerts = is_delivered(call);
-    let number = number_at(board, leg);
     FarParty {
-        reference,
-        leg,
-        alerts,
-        number,
+        reference: party.call.reference,
+        leg: party.leg,
+        alerts: is_delivered(party.call),
+        number: number_at(board, party.leg),
     }
 }
 
@@ -36,30 +32,30 @@ fn transfer(
     second: Party,
     identifier: IntegerOctets,
 ) -> Effect
-    ensures { EffectOf result board (service_decision board.options party
+    ensures { EffectOf (Ok result) board (service_decision board.options party
         (Service.Transfer first second identifier)) }
 {
-    let call = party.call;
-    let reference = call.reference;
-    let a = far_party(board, first);
-    let b = far_party(board, second);
-    accept(
-        ChangeKind::Apply(Change::Join(first.leg, second.leg)),
-        replies::transfer(reference, identifier, a, b),
+    applied(
+        Change::Join(first.leg, second.leg),
+        replies::transfer(
+            party.call.reference,
+            identifier,
+            far_party(board, first),
+            far_party(board, second),
+        ),
     )
 }
 
 // Carries out what the component of the party's Facility comes to.
 fn carry_out(board: Board, party: Party, service: Service) -> Effect
-    ensures { EffectOf result board (service_decision board.options party service) }
+    ensures { EffectOf (Ok result) board (service_decision board.options party service) }
 {
-    let call = party.call;
-    let reference = call.reference;
+    let reference = party.call.reference;
     match service {
-        Service::Silent => accept(ChangeKind::None, nothing()),
-        Service::Respond(a) => accept(ChangeKind::None, reply(reference, a)),
-        Service::AssignLinkId(id, identifier) => accept(
-            ChangeKind::Apply(Change::SetLinkId(reference, id)),
+        Service::Silent => unchanged(nothing()),
+        Service::Respond(a) => unchanged(reply(reference, a)),
+        Service::AssignLinkId(id, identifier) => applied(
+            Change::SetLinkId(reference, id),
             reply(reference, Answer::LinkIdResult(identifier, id)),
         ),
         Service::Transfer {
@@ -70,15 +66,13 @@ fn carry_out(board: Board, party: Party, service: Service) -> Effect
     }
 }
 
-pub fn facility(board: Board, reference: CallReference, component: &[u8]) -> Effect
+pub fn facility(board: Board, reference: CallReference, component: &[u8]) -> Result<Effect, Refusal>
     ensures { EffectOf result board (facility_on board reference.0 component.now) }
 {
-    let FoundParty::This(party) = named(board, reference) else {
-        return refuse(Refusal::NoSuchCall);
-    };
-    carry_out(
+    let party = named(board, reference).ok_or(Refusal::NoSuchCall)?;
+    Ok(carry_out(
         board,
         party,
         serve(board, party, component::read(component)),
-    )
+    ))
 }

@@ -1,25 +1,24 @@
 // What an event comes to: whether it is refused, what it changes on the board, and the replies.
 #![tactic(auto)]
 
-ghost use Rattle.std.specs.Prelude.{◌≡◌};
-ghost use Rattle.board.specs.Making.{empty_row};
-ghost use Rattle.rules.specs.Checks.{Refuse, assigned_by};
+ghost use Rattle.std.specs.Prelude.{◌≡◌, None, Some};
+ghost use Rattle.rules.specs.Checks.{assigned_by};
 ghost use Rattle.rules.specs.Replies.{number_at};
 ghost use Rattle.rules.specs.Step.{decision, candidate_by};
-ghost use Rattle.effects.specs.Code.Effects.{EffectOf, EffectAnywhere, effect, board_by};
+ghost use Rattle.effects.specs.Code.Effects.{EffectOf, effect, board_by};
 
 use board::finding::{Key, find_row};
-use board::{Board, Change, PartyNumber, Row, empty_row};
+use board::{Board, Change, Row};
 use call_states::{hold, progress};
 use ending::{answer, release};
 use events::Refusal;
-use events::records::{RequestHead, read_request};
+use events::records::{Request, read_request};
 use facility::facility;
 use octets::LinkId;
-use opening::{digits_of, open};
-use passing::{component_of, leg_facility};
-use replies::{Out, nothing, number_as_told};
-use row_changes::{change, open_row};
+use opening::open;
+use passing::leg_facility;
+use replies::{Out, number_as_told};
+use row_changes::open_row;
 use rules::TellNumber;
 use serving::parties::{entry_at, named};
 
@@ -29,50 +28,34 @@ mod facility;
 mod opening;
 mod passing;
 
-#[derive(Clone, Copy)]
-pub enum Acceptance {
-    Accepted,
-    Refused(Refusal),
-}
-
-// What changes on the board: nothing, a row is entered, or rows that are taken change.
+// What changes on the board: a row is entered, or rows that are taken change.
 #[derive(Clone, Copy)]
 pub enum ChangeKind {
-    None,
-    Enter,
+    Enter(Row),
     Apply(Change),
 }
 
-// An effect has no board, so that the board is made once, from the change. The row is the one to enter: it stands
-// beside the change, as an enum holds no array, and is empty where none is entered.
-#[derive(Clone, Copy)]
+// What an accepted event comes to. It has no board, so that the board is made once, from the change.
+#[derive(Drop)]
 pub struct Effect {
-    pub acceptance: Acceptance,
-    pub change: ChangeKind,
-    pub row: Row,
+    pub change: Option<ChangeKind>,
     pub out: Out,
 }
 
-// An accepted event that enters no row.
-fn accept(change: ChangeKind, out: Out) -> Effect
-    ensures { result ≡ effect Acceptance.Accepted change empty_row out }
+// An accepted event that changes nothing.
+fn unchanged(out: Out) -> Effect
+    ensures { result ≡ effect None out }
 {
-    Effect {
-        acceptance: Acceptance::Accepted,
-        change,
-        row: empty_row(),
-        out,
-    }
+    Effect { change: None, out }
 }
 
-fn refuse(refusal: Refusal) -> Effect
-    ensures { EffectAnywhere result (Refuse refusal) }
+// An accepted event that changes rows that are taken.
+fn applied(change: Change, out: Out) -> Effect
+    ensures { result ≡ effect (Some (ChangeKind.Apply change)) out }
 {
     Effect {
-        acceptance: Acceptance::Refused(refusal),
-        change: ChangeKind::None,
-        row: empty_row(),
-        out: nothing(),
+        change: Some(ChangeKind::Apply(change)),
+        out,
     }
 }
 
@@ -80,42 +63,28 @@ fn refuse(refusal: Refusal) -> Effect
 fn number_at(board: Board, leg: u32) -> TellNumber
     ensures { result ≡ number_at board.rows leg }
 {
-    let row = find_row(board, Key::Leg(leg));
-    let number = row.number;
-    number_as_told(number)
+    number_as_told(find_row(board, Key::Leg(leg)).number)
 }
 
 // What the event comes to on the board, where board and buffer are in order.
-pub fn effect_of(board: Board, event: &[u8]) -> Effect
+pub fn effect_of(board: Board, event: &[u8]) -> Result<Effect, Refusal>
     ensures { EffectOf result board (decision board event.now) }
 {
-    match read_request(event) {
-        RequestHead::Malformed(refusal) => refuse(refusal),
-        RequestHead::Open {
+    let request = read_request(event)?;
+    match request {
+        Request::Open {
             reference,
             leg,
             direction,
-            presentation,
-            count,
-        } => {
-            let number = PartyNumber {
-                presentation,
-                count,
-                digits: digits_of(event),
-            };
-            open(board, reference, leg, direction, number)
-        }
-        RequestHead::Progress(reference, state) => {
-            progress(named(board, reference), reference, state)
-        }
-        RequestHead::Hold(reference, auxiliary) => {
-            hold(named(board, reference), reference, auxiliary)
-        }
-        RequestHead::Release(leg) => release(entry_at(board, leg)),
-        RequestHead::Facility(reference, n) => facility(board, reference, &event[4..n + 4]),
-        RequestHead::Answer(leg) => answer(board, entry_at(board, leg), leg),
-        RequestHead::LegFacility(leg, count) => {
-            leg_facility(entry_at(board, leg), count, component_of(event))
+            number,
+        } => open(board, reference, leg, direction, number),
+        Request::Progress(reference, state) => progress(named(board, reference), reference, state),
+        Request::Hold(reference, auxiliary) => hold(named(board, reference), reference, auxiliary),
+        Request::Release(leg) => release(entry_at(board, leg)),
+        Request::Facility(reference, component) => facility(board, reference, component),
+        Request::Answer(leg) => answer(board, entry_at(board, leg), leg),
+        Request::LegFacility(leg, count, octets) => {
+            leg_facility(entry_at(board, leg), count, *octets)
         }
     }
 }
@@ -125,29 +94,21 @@ fn candidate_after(candidate: LinkId, change: Change) -> LinkId
     ensures { result ≡ candidate_by (assigned_by change) candidate }
 {
     match change {
-        Change::SetState(_, _) => candidate,
-        Change::SetAuxiliary(_, _) => candidate,
         Change::SetLinkId(_, id) => id.next(),
-        Change::Join(_, _) => candidate,
-        Change::EndAlerting(_) => candidate,
-        Change::Release(_) => candidate,
-        Change::ReleasePair(_, _) => candidate,
+        _ => candidate,
     }
 }
 
-// The board after the effect.
-pub fn done(board: Board, effect: Effect) -> Board
-    ensures { result ≡ board_by effect.change effect.row board }
+// The board after a change, if there is one.
+pub fn done(board: Board, change: Option<ChangeKind>) -> Board
+    ensures { result ≡ board_by change board }
 {
-    let board_change = effect.change;
-    match board_change {
-        ChangeKind::None => board,
-        ChangeKind::Enter => open_row(board, effect.row),
-        ChangeKind::Apply(c) => {
-            let candidate = candidate_after(board.candidate, c);
-            let mut after = change(board, c);
-            after.candidate = candidate;
-            after
-        }
+    match change {
+        None => board,
+        Some(ChangeKind::Enter(row)) => open_row(board, row),
+        Some(ChangeKind::Apply(c)) => Board {
+            candidate: candidate_after(board.candidate, c),
+            ..row_changes::change(board, c)
+        },
     }
 }

@@ -3,78 +3,68 @@
 #![tactic(auto)]
 
 ghost use Rattle.elements.specs.Elements.{first_element, whole_elements};
-ghost use Rattle.elements.specs.Code.Readers.{FirstElementRead, checked, are_whole};
+ghost use Rattle.elements.specs.Code.Readers.{element_of, checked};
 ghost use Rattle.std.specs.Prelude.{◌≡◌};
 
 pub mod values;
 
-// The first element of some octets.
+// The first element of some octets: its tag, its contents, and the octets after it.
 #[derive(Clone, Copy)]
-pub enum FirstElement {
-    // Its tag, and how many octets of contents follow the tag and the length.
-    Whole { tag: u8, len: usize },
-    Bad,
-}
-
-// Whether some octets are elements up to their end.
-#[derive(Clone, Copy)]
-pub enum Elements {
-    Whole,
-    Bad,
+pub struct FirstElement<'a> {
+    pub tag: u8,
+    pub contents: &'a [u8],
+    pub rest: &'a [u8],
 }
 
 // Leaves the contents unread.
-pub fn first_element(s: &[u8]) -> FirstElement
-    ensures { FirstElementRead s.now result (first_element s.now) }
+#[tactic(auto, using(crate::proofs::ElementLaws::short, crate::proofs::ElementLaws::front, crate::proofs::ElementLaws::whole))]
+pub fn first_element(s: &[u8]) -> Option<FirstElement<'_>>
+    ensures { element_of result ≡ first_element s.now }
 {
-    if s.len() < 2 {
-        return FirstElement::Bad;
-    }
-    let tag = s[0];
-    let len = s[1] as usize;
+    let [tag, len, after @ ..] = s else {
+        return None;
+    };
     if tag % 32 == 31 {
-        return FirstElement::Bad;
+        return None;
     }
-    if 128 <= len {
-        return FirstElement::Bad;
+    if 128 <= *len {
+        return None;
     }
-    if s.len() - 2 < len {
-        return FirstElement::Bad;
-    }
-    FirstElement::Whole { tag, len }
+    let (contents, rest) = after.split_at_checked(*len as usize)?;
+    Some(FirstElement {
+        tag: *tag,
+        contents,
+        rest,
+    })
 }
 
 // The first element, whose contents may nest `depth` deep.
-#[cycle(read_element_read_elements)]
-pub fn read_element(s: &[u8], depth: u8) -> FirstElement
-    ensures { FirstElementRead s.now result
-        (checked (whole_elements depth) (first_element s.now)) }
+#[cycle(read_element_are_elements)]
+#[tactic(auto, using(crate::proofs::ElementLaws::parts))]
+pub fn read_element(s: &[u8], depth: u8) -> Option<FirstElement<'_>>
+    ensures { element_of result ≡ checked (whole_elements depth) (first_element s.now) }
 {
-    let FirstElement::Whole { tag, len } = first_element(s) else {
-        return FirstElement::Bad;
-    };
-    if tag / 32 % 2 != 1 {
-        return FirstElement::Whole { tag, len };
+    let element = first_element(s)?;
+    if element.tag / 32 % 2 == 1 && !are_elements(element.contents, depth) {
+        return None;
     }
-    let Elements::Whole = read_elements(&s[2..len + 2], depth) else {
-        return FirstElement::Bad;
-    };
-    FirstElement::Whole { tag, len }
+    Some(element)
 }
 
-// Elements up to the end, which may nest `depth` deep, these counted. None are left at depth 0.
-#[cycle(read_element_read_elements)]
-pub fn read_elements(s: &[u8], depth: u8) -> Elements
-    ensures { are_whole result ≡ whole_elements depth s.now }
+// Whether these are elements up to the end that nest at most `depth` deep, these counted. None are left at depth 0.
+#[cycle(read_element_are_elements)]
+#[tactic(auto, using(crate::proofs::ElementLaws::none_left, crate::proofs::ElementLaws::too_deep, crate::proofs::ElementLaws::first_bad, crate::proofs::ElementLaws::some_left))]
+pub fn are_elements(s: &[u8], depth: u8) -> bool
+    ensures { result ≡ whole_elements depth s.now }
 {
-    if s.len() == 0 {
-        return Elements::Whole;
+    if s.is_empty() {
+        return true;
     }
     if depth == 0 {
-        return Elements::Bad;
+        return false;
     }
-    let FirstElement::Whole { tag: _, len } = read_element(s, depth - 1) else {
-        return Elements::Bad;
+    let Some(element) = read_element(s, depth - 1) else {
+        return false;
     };
-    read_elements(&s[len + 2..], depth)
+    are_elements(element.rest, depth)
 }

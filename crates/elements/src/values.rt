@@ -1,79 +1,48 @@
-// Elements read as values: integers and object identifiers.
+// Elements read as values: integers and object identifiers, each with the octets after it.
+ghost use Rattle.std.specs.Prelude.{◌≡◌};
 ghost use Rattle.elements.specs.Elements.{first_element};
-ghost use Rattle.elements.specs.Values.{integer_octets_in, integer_in};
-ghost use Rattle.elements.specs.Code.Readers.{IntegerRead, ObjectRead};
+ghost use Rattle.elements.specs.Values.{integer_octets_in, integer_in, object_in, with_rest};
+ghost use Rattle.elements.specs.Code.Readers.{integer_read, object_read};
 
-use crate::{FirstElement, first_element};
+use crate::first_element;
 use octets::IntegerOctets;
 
-// The first element as an integer.
-#[derive(Clone, Copy)]
-pub enum FirstInteger {
-    // Its octets, and where the octets after it begin.
-    Whole { octets: IntegerOctets, next: usize },
-    Other,
-}
-
-// The first element as an object identifier.
-#[derive(Clone, Copy)]
-pub enum FirstObject {
-    // How many octets of contents follow the tag and the length.
-    Whole { len: usize },
-    Other,
-}
-
 // One or two octets of contents, padded or not.
-pub fn read_integer_octets(s: &[u8]) -> FirstInteger
-    ensures { IntegerRead s.now result (first_element s.now)
-        (integer_octets_in (first_element s.now)) }
+pub fn read_integer_octets(s: &[u8]) -> Option<(IntegerOctets, &[u8])>
+    ensures { integer_read result ≡ with_rest (integer_octets_in (first_element s.now)) (first_element s.now) }
 {
-    let FirstElement::Whole { tag, len } = first_element(s) else {
-        return FirstInteger::Other;
-    };
-    if tag != 0x02 {
-        return FirstInteger::Other;
+    let element = first_element(s)?;
+    if element.tag != 0x02 {
+        return None;
     }
-    if len == 1 {
-        return FirstInteger::Whole {
-            octets: IntegerOctets::One(s[2]),
-            next: 3,
-        };
+    match element.contents {
+        [a] => Some((IntegerOctets::One(*a), element.rest)),
+        [a, b] => Some((IntegerOctets::Two(*a, *b), element.rest)),
+        _ => None,
     }
-    if len == 2 {
-        return FirstInteger::Whole {
-            octets: IntegerOctets::Two(s[2], s[3]),
-            next: 4,
-        };
-    }
-    FirstInteger::Other
 }
 
 // An integer of the required form: what is padded is none.
-pub fn read_integer(s: &[u8]) -> FirstInteger
-    ensures { IntegerRead s.now result (first_element s.now)
-        (integer_in (first_element s.now)) }
+pub fn read_integer(s: &[u8]) -> Option<(IntegerOctets, &[u8])>
+    ensures { integer_read result ≡ with_rest (integer_in (first_element s.now)) (first_element s.now) }
 {
-    let FirstInteger::Whole { octets, next } = read_integer_octets(s) else {
-        return FirstInteger::Other;
-    };
+    let (octets, rest) = read_integer_octets(s)?;
     if octets.is_padded() {
-        return FirstInteger::Other;
+        return None;
     }
-    FirstInteger::Whole { octets, next }
+    Some((octets, rest))
 }
 
-// An object identifier has one octet of contents or more.
-pub fn read_object(s: &[u8]) -> FirstObject
-    ensures { ObjectRead s.now result (first_element s.now) }
+// The octets of an object identifier: one or more.
+pub fn read_object(s: &[u8]) -> Option<(&[u8], &[u8])>
+    ensures { object_read result ≡ with_rest (object_in (first_element s.now)) (first_element s.now) }
 {
-    let FirstElement::Whole { tag, len } = first_element(s) else {
-        return FirstObject::Other;
-    };
-    if tag != 0x06 {
-        return FirstObject::Other;
+    let element = first_element(s)?;
+    if element.tag != 0x06 {
+        return None;
     }
-    if len == 0 {
-        return FirstObject::Other;
+    if element.contents.is_empty() {
+        return None;
     }
-    FirstObject::Whole { len }
+    Some((element.contents, element.rest))
 }

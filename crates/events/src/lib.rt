@@ -7,9 +7,9 @@ ghost use Rattle.events.specs.Refusals.{refusal_number};
 pub mod records;
 
 // Why an event is refused, in the order of the checks; documents 01 and 02 number them from 1 to 12.
-#[derive(Clone, Copy)]
+#[derive(Clone, Copy, Debug, PartialEq, Eq)]
 pub enum Refusal {
-    BufferTooSmall,
+    BufferTooSmall = 1,
     UnsoundBoard,
     WrongLength,
     UnknownKind,
@@ -27,18 +27,5 @@ pub enum Refusal {
 pub fn refusal_number(refusal: Refusal) -> u8
     ensures { result ≡ refusal_number refusal }
 {
-    match refusal {
-        Refusal::BufferTooSmall => 1,
-        Refusal::UnsoundBoard => 2,
-        Refusal::WrongLength => 3,
-        Refusal::UnknownKind => 4,
-        Refusal::FieldOutOfRange => 5,
-        Refusal::LegOnBoard => 6,
-        Refusal::ReferenceInUse => 7,
-        Refusal::NoEmptyRow => 8,
-        Refusal::NoSuchCall => 9,
-        Refusal::NoSuchLeg => 10,
-        Refusal::NotPermitted => 11,
-        Refusal::NoSuchInvoke => 12,
-    }
+    refusal as u8
 }

@@ -1,301 +1,184 @@
-// Event records: what a record asks for, or why it is none. Places are those of the whole record, the kind at 0.
-ghost use Rattle.std.specs.Prelude.{◌+◌, ◌≤◌, ◌≡◌, length, drop, get_or};
-ghost use Rattle.octets.specs.Lists.{all};
-ghost use Rattle.board.specs.States.{valid_reference};
-ghost use Rattle.board.specs.Soundness.{zeros, valid_digits};
+// Event records: what a record asks for, or why it is none. Places are those of the body, behind the kind.
+ghost use Rattle.std.specs.Prelude.{◌≡◌, length, MatchResult, ◌≢◌};
 ghost use Rattle.events.specs.Records.{record_length};
-ghost use Rattle.events.specs.EventRecords.{field, valid_component, direction_of, of_kind, request};
-ghost use Rattle.board.specs.Soundness.{is_digit};
-ghost use Rattle.events.specs.Code.RecordValues.{RecordRead};
+ghost use Rattle.events.specs.declared.Refusal.TheVariants.{WrongLength};
+ghost use Rattle.events.specs.EventRecords.{field, valid_component, of_kind, request};
+ghost use Rattle.events.specs.Code.RecordValues.{leg_read, reference_read, request_read};
 
 use crate::Refusal;
-use board::{AuxiliaryState, CallState, Direction};
+use board::{AuxiliaryState, CallState, Direction, PartyNumber, valid_digits};
+use digits::all_zeros;
 use octets::CallReference;
 
-// What a record asks for. The digits of an Open and components stay in the record: 15 octets from place 10, of a
-// Facility as many as said from place 4, and of a Leg facility as many as said of the 64 octets from place 6.
+// What a record asks for. A Facility has its component, a Leg facility its count and all 64 octets, as they are
+// passed on with their zeros.
 #[derive(Clone, Copy)]
-pub enum RequestHead {
-    Malformed(Refusal),
+pub enum Request<'a> {
     Open {
         reference: CallReference,
         leg: u32,
         direction: Direction,
-        presentation: u8,
-        count: u8,
+        number: PartyNumber,
     },
     Progress(CallReference, CallState),
     Hold(CallReference, AuxiliaryState),
     Release(u32),
-    Facility(CallReference, usize),
+    Facility(CallReference, &'a [u8]),
     Answer(u32),
-    LegFacility(u32, u8),
+    LegFacility(u32, u8, &'a [u8; 64]),
 }
 
 // How many octets a record has: its kind, and the body that its kind has; of a kind that is not listed the kind alone.
 pub fn record_length(kind: u8) -> usize
     ensures { result ≡ record_length kind }
 {
-    if kind == 1 {
-        return 25;
-    }
-    if kind == 2 {
-        return 4;
-    }
-    if kind == 3 {
-        return 4;
-    }
-    if kind == 4 {
-        return 5;
-    }
-    if kind == 5 {
-        return 36;
-    }
-    if kind == 6 {
-        return 5;
-    }
-    if kind == 7 {
-        return 70;
-    }
-    1
-}
-
-// The number in the two octets from a place on.
-fn u16_at(s: &[u8], at: usize) -> u16
-    requires { at + 2 ≤ length s.now }
-    ensures { result ≡ field at 2 s.now }
-{
-    let high = s[at];
-    let low = s[at + 1];
-    (high as u16) * 256 + (low as u16)
-}
-
-// The number in the four octets from a place on.
-fn u32_at(s: &[u8], at: usize) -> u32
-    requires { at + 4 ≤ length s.now }
-    ensures { result ≡ field at 4 s.now }
-{
-    (u16_at(s, at) as u32) * 65536 + (u16_at(s, at + 2) as u32)
-}
-
-fn valid_reference(n: u16) -> bool
-    ensures { result ≡ valid_reference n }
-{
-    n % 32768 != 0
-}
-
-fn all_digits(s: &[u8]) -> bool
-    ensures { result ≡ all is_digit s.now }
-{
-    let mut i = 0;
-    while i < s.len() {
-        let octet = s[i];
-        if octet < 48 {
-            return false;
-        }
-        if 57 < octet {
-            return false;
-        }
-        i += 1;
-    }
-    true
-}
-
-fn all_zeros(s: &[u8]) -> bool
-    ensures { result ≡ zeros s.now }
-{
-    let mut i = 0;
-    while i < s.len() {
-        if s[i] != 0 {
-            return false;
-        }
-        i += 1;
-    }
-    true
-}
-
-// Of 15 octets: as many digits as the count says, then zeros.
-fn valid_digits(count: u8, digits: &[u8]) -> bool
-    requires { length digits.now ≡ 15 }
-    ensures { result ≡ valid_digits count digits.now }
-{
-    if 15 < count {
-        return false;
-    }
-    let n = count as usize;
-    if !all_digits(&digits[..n]) {
-        return false;
-    }
-    all_zeros(&digits[n..])
-}
-
-// The count of a component, then the component in `most` octets, zeros behind it.
-fn valid_component(s: &[u8], most: usize) -> bool
-    requires { length s.now ≡ most + 1 }
-    ensures { result ≡ valid_component most (get_or s.now 0 0) (drop 1 s.now) }
-{
-    let count = s[0] as usize;
-    if count < 1 {
-        return false;
-    }
-    if most < count {
-        return false;
-    }
-    all_zeros(&s[count + 1..])
-}
-
-// A direction's octet; above 1 it is none.
-fn direction_of(n: u8) -> Direction
-    ensures { result ≡ direction_of n }
-{
-    if n == 0 {
-        Direction::Outgoing
-    } else {
-        Direction::Incoming
+    match kind {
+        1 => 25,
+        2 | 3 => 4,
+        4 | 6 => 5,
+        5 => 36,
+        7 => 70,
+        _ => 1,
     }
 }
 
-fn read_open(event: &[u8]) -> RequestHead
-    requires { length event.now ≡ record_length 1 }
-    ensures { RecordRead event.now result (of_kind 1 (drop 1 event.now)) }
+// The body, where it is as long as its kind has it.
+fn sized<const N: usize>(body: &[u8]) -> Result<&[u8; N], Refusal>
+    ensures { MatchResult result (λ b. (b.now ≡ body.now) × (length body.now ≡ N)) (λ c. (c ≡ WrongLength) × (length body.now ≢ N)) }
 {
-    let reference = u16_at(event, 1);
-    let direction = event[7];
-    let presentation = event[8];
-    let count = event[9];
-    if !valid_reference(reference) {
-        return RequestHead::Malformed(Refusal::FieldOutOfRange);
+    body.as_array().ok_or(Refusal::WrongLength)
+}
+
+fn read_reference(octets: [u8; 2]) -> Result<CallReference, Refusal>
+    ensures { result ≡ reference_read (field 0 2 octets) }
+{
+    let n = u16::from_be_bytes(octets);
+    if n % 32768 == 0 {
+        return Err(Refusal::FieldOutOfRange);
     }
-    if 1 < direction {
-        return RequestHead::Malformed(Refusal::FieldOutOfRange);
+    Ok(CallReference(n))
+}
+
+// A component of as many octets as the count says, then zeros.
+fn valid_component(count: u8, octets: &[u8]) -> bool
+    ensures { result ≡ valid_component (length octets.now) count octets.now }
+{
+    let n = usize::from(count);
+    0 < n && n <= octets.len() && all_zeros(&octets[n..])
+}
+
+fn read_open(body: &[u8]) -> Result<Request<'_>, Refusal>
+    ensures { request_read result ≡ of_kind 1 body.now }
+{
+    let body = sized::<24>(body)?;
+    let [r0, r1, l0, l1, l2, l3, direction, presentation, count, ..] = *body;
+    let digits: [u8; 15] = *body.last_chunk().unwrap();
+    let reference = read_reference([r0, r1])?;
+    let direction = match direction {
+        0 => Direction::Outgoing,
+        1 => Direction::Incoming,
+        _ => return Err(Refusal::FieldOutOfRange),
+    };
+    if 1 < presentation || !valid_digits(count, &digits) {
+        return Err(Refusal::FieldOutOfRange);
     }
-    if 1 < presentation {
-        return RequestHead::Malformed(Refusal::FieldOutOfRange);
-    }
-    if !valid_digits(count, &event[10..]) {
-        return RequestHead::Malformed(Refusal::FieldOutOfRange);
-    }
-    RequestHead::Open {
-        reference: CallReference(reference),
-        leg: u32_at(event, 3),
-        direction: direction_of(direction),
-        presentation,
-        count,
+    Ok(Request::Open {
+        reference,
+        leg: u32::from_be_bytes([l0, l1, l2, l3]),
+        direction,
+        number: PartyNumber {
+            presentation,
+            count,
+            digits,
+        },
+    })
+}
+
+fn read_progress(body: &[u8]) -> Result<Request<'_>, Refusal>
+    ensures { request_read result ≡ of_kind 2 body.now }
+{
+    let body = sized::<3>(body)?;
+    let [r0, r1, state] = *body;
+    let reference = read_reference([r0, r1])?;
+    match state {
+        4 => Ok(Request::Progress(reference, CallState::CallDelivered)),
+        10 => Ok(Request::Progress(reference, CallState::Active)),
+        _ => Err(Refusal::FieldOutOfRange),
     }
 }
 
-fn read_progress(event: &[u8]) -> RequestHead
-    requires { length event.now ≡ record_length 2 }
-    ensures { RecordRead event.now result (of_kind 2 (drop 1 event.now)) }
+fn read_hold(body: &[u8]) -> Result<Request<'_>, Refusal>
+    ensures { request_read result ≡ of_kind 3 body.now }
 {
-    let reference = u16_at(event, 1);
-    let state = event[3];
-    if !valid_reference(reference) {
-        return RequestHead::Malformed(Refusal::FieldOutOfRange);
-    }
-    if state == 4 {
-        return RequestHead::Progress(CallReference(reference), CallState::CallDelivered);
-    }
-    if state == 10 {
-        return RequestHead::Progress(CallReference(reference), CallState::Active);
-    }
-    RequestHead::Malformed(Refusal::FieldOutOfRange)
+    let body = sized::<3>(body)?;
+    let [r0, r1, auxiliary] = *body;
+    let reference = read_reference([r0, r1])?;
+    let auxiliary = match auxiliary {
+        0 => AuxiliaryState::Idle,
+        1 => AuxiliaryState::HoldRequest,
+        2 => AuxiliaryState::CallHeld,
+        3 => AuxiliaryState::RetrieveRequest,
+        _ => return Err(Refusal::FieldOutOfRange),
+    };
+    Ok(Request::Hold(reference, auxiliary))
 }
 
-fn read_hold(event: &[u8]) -> RequestHead
-    requires { length event.now ≡ record_length 3 }
-    ensures { RecordRead event.now result (of_kind 3 (drop 1 event.now)) }
+// The body of a Release or an Answer.
+fn read_leg(body: &[u8]) -> Result<u32, Refusal>
+    ensures { result ≡ leg_read body.now }
 {
-    let reference = u16_at(event, 1);
-    let auxiliary = event[3];
-    if !valid_reference(reference) {
-        return RequestHead::Malformed(Refusal::FieldOutOfRange);
-    }
-    if auxiliary == 0 {
-        return RequestHead::Hold(CallReference(reference), AuxiliaryState::Idle);
-    }
-    if auxiliary == 1 {
-        return RequestHead::Hold(CallReference(reference), AuxiliaryState::HoldRequest);
-    }
-    if auxiliary == 2 {
-        return RequestHead::Hold(CallReference(reference), AuxiliaryState::CallHeld);
-    }
-    if auxiliary == 3 {
-        return RequestHead::Hold(CallReference(reference), AuxiliaryState::RetrieveRequest);
-    }
-    RequestHead::Malformed(Refusal::FieldOutOfRange)
+    let body = sized::<4>(body)?;
+    Ok(u32::from_be_bytes(*body))
 }
 
-fn read_release(event: &[u8]) -> RequestHead
-    requires { length event.now ≡ record_length 4 }
-    ensures { RecordRead event.now result (of_kind 4 (drop 1 event.now)) }
+fn read_facility(body: &[u8]) -> Result<Request<'_>, Refusal>
+    ensures { request_read result ≡ of_kind 5 body.now }
 {
-    RequestHead::Release(u32_at(event, 1))
+    let body = sized::<35>(body)?;
+    let [r0, r1, count, ..] = *body;
+    let octets: &[u8; 32] = body.last_chunk().unwrap();
+    let reference = read_reference([r0, r1])?;
+    if !valid_component(count, octets) {
+        return Err(Refusal::FieldOutOfRange);
+    }
+    Ok(Request::Facility(reference, &octets[..usize::from(count)]))
 }
 
-fn read_facility(event: &[u8]) -> RequestHead
-    requires { length event.now ≡ record_length 5 }
-    ensures { RecordRead event.now result (of_kind 5 (drop 1 event.now)) }
+fn read_leg_facility(body: &[u8]) -> Result<Request<'_>, Refusal>
+    ensures { request_read result ≡ of_kind 7 body.now }
 {
-    let reference = u16_at(event, 1);
-    if !valid_reference(reference) {
-        return RequestHead::Malformed(Refusal::FieldOutOfRange);
+    let body = sized::<69>(body)?;
+    let [l0, l1, l2, l3, count, ..] = *body;
+    let octets: &[u8; 64] = body.last_chunk().unwrap();
+    if !valid_component(count, octets) {
+        return Err(Refusal::FieldOutOfRange);
     }
-    if !valid_component(&event[3..], 32) {
-        return RequestHead::Malformed(Refusal::FieldOutOfRange);
-    }
-    RequestHead::Facility(CallReference(reference), event[3] as usize)
+    Ok(Request::LegFacility(u32::from_be_bytes([l0, l1, l2, l3]), count, octets))
 }
 
-fn read_answer(event: &[u8]) -> RequestHead
-    requires { length event.now ≡ record_length 6 }
-    ensures { RecordRead event.now result (of_kind 6 (drop 1 event.now)) }
+// A kind stays an octet: it is matched here and for its length, which an unlisted kind has too, and nowhere else.
+fn read_body(kind: u8, body: &[u8]) -> Result<Request<'_>, Refusal>
+    ensures { request_read result ≡ of_kind kind body.now }
 {
-    RequestHead::Answer(u32_at(event, 1))
-}
-
-fn read_leg_facility(event: &[u8]) -> RequestHead
-    requires { length event.now ≡ record_length 7 }
-    ensures { RecordRead event.now result (of_kind 7 (drop 1 event.now)) }
-{
-    if !valid_component(&event[5..], 64) {
-        return RequestHead::Malformed(Refusal::FieldOutOfRange);
+    match kind {
+        1 => read_open(body),
+        2 => read_progress(body),
+        3 => read_hold(body),
+        4 => Ok(Request::Release(read_leg(body)?)),
+        5 => read_facility(body),
+        6 => Ok(Request::Answer(read_leg(body)?)),
+        7 => read_leg_facility(body),
+        _ => Err(Refusal::UnknownKind),
     }
-    RequestHead::LegFacility(u32_at(event, 1), event[5])
 }
 
 // Reads a record of any length and content. The kind is judged before the length.
-pub fn read_request(event: &[u8]) -> RequestHead
-    ensures { RecordRead event.now result (request event.now) }
+#[tactic(auto, using(crate::proofs::RecordLaws::no_kind, crate::proofs::RecordLaws::kind_first))]
+pub fn read_request(event: &[u8]) -> Result<Request<'_>, Refusal>
+    ensures { request_read result ≡ request event.now }
 {
-    if event.len() == 0 {
-        return RequestHead::Malformed(Refusal::WrongLength);
+    match event {
+        [] => Err(Refusal::WrongLength),
+        [kind, body @ ..] => read_body(*kind, body),
     }
-    let kind = event[0];
-    let length = record_length(kind);
-    if length == 1 {
-        return RequestHead::Malformed(Refusal::UnknownKind); // Every kind that is listed has a body.
-    }
-    if event.len() != length {
-        return RequestHead::Malformed(Refusal::WrongLength);
-    }
-    if kind == 1 {
-        return read_open(event);
-    }
-    if kind == 2 {
-        return read_progress(event);
-    }
-    if kind == 3 {
-        return read_hold(event);
-    }
-    if kind == 4 {
-        return read_release(event);
-    }
-    if kind == 5 {
-        return read_facility(event);
-    }
-    if kind == 6 {
-        return read_answer(event);
-    }
-    read_leg_facility(event)
 }

@@ -1,10 +1,10 @@
 -- Octets that are read as an invoke, with nothing behind, are the octets of that invoke. Assumes nothing.
+use Rattle.std.specs.Prelude.{None, Option, Some}
 use Prim.Native.Nat.{ℕ, ◌%◌, ◌≤◌}
 use native.Mathlib.Omega.{arith}
 use mathlib.Core.Path.{◌≡◌, refl, sym, ap, ap₂, ◌∙◌, subst}
 use mathlib.Core.Bool.{Bool, true, false, ◌&&◌, cond, not}
 use mathlib.Core.List.{List, [], ◌∷◌, ◌++◌, append-nil}
-use mathlib.Core.Option.{Option, none, some}
 use lib.Dec.{eqb, leb, ltb}
 use lib.IntN.{pos}
 use lib.ListN.{length, take, drop, take-append-drop}
@@ -49,31 +49,31 @@ element_front (x ∷ n ∷ s) tag c r q = go (valid_head x n s) refl q
         rw (← t, ← e, ← f, length-take-le n s k, take-append-drop n s)
     go false h q = absurd (let z : ◌≡◌ {A = ℕ} 0 1 = cc in omega arith)
 
-one_or_two_lem : (c : List ℕ) (o : IntegerOctets) → one_or_two c ≡ some o → c ≡ contents_of o
+one_or_two_lem : (c : List ℕ) (o : IntegerOctets) → one_or_two c ≡ Some o → c ≡ contents_of o
 one_or_two_lem [] o q = no_option q
 one_or_two_lem (a ∷ []) o q = let e : One a ≡ o = cc in rw (← e)
 one_or_two_lem (a ∷ b ∷ []) o q = let e : Two a b ≡ o = cc in rw (← e)
 one_or_two_lem (a ∷ b ∷ d ∷ c) o q = no_option q
 
-integer_front : (s : List ℕ) (o : IntegerOctets) → integer_in (first_element s) ≡ some o → s ≡ integer o ++ rest_of (first_element s)
+integer_front : (s : List ℕ) (o : IntegerOctets) → integer_in (first_element s) ≡ Some o → s ≡ integer o ++ rest_of (first_element s)
 integer_front s o q = go (first_element s) refl (unpadded_is (integer_octets_in (first_element s)) o q).0
   where
-    go : (e : Element) → first_element s ≡ e → integer_octets_in e ≡ some o → s ≡ integer o ++ rest_of e
+    go : (e : Element) → first_element s ≡ e → integer_octets_in e ≡ Some o → s ≡ integer o ++ rest_of e
     go Bad f q = no_option q
     go (Whole tag c r) f q = tagged (eqb tag 2) refl q
       where
-        tagged : (b : Bool) → eqb tag 2 ≡ b → cond b (one_or_two c) none ≡ some o → s ≡ integer o ++ r
+        tagged : (b : Bool) → eqb tag 2 ≡ b → cond b (one_or_two c) None ≡ Some o → s ≡ integer o ++ r
         tagged true t q = rw (← eqb_eq tag 2 t, ← one_or_two_lem c o q) (element_front s tag c r f)
         tagged false t q = no_option q
 
-object_front : (s x : List ℕ) → object_in (first_element s) ≡ some x → s ≡ element 0x06 x ++ rest_of (first_element s)
+object_front : (s x : List ℕ) → object_in (first_element s) ≡ Some x → s ≡ element 0x06 x ++ rest_of (first_element s)
 object_front s x q = go (first_element s) refl q
   where
-    go : (e : Element) → first_element s ≡ e → object_in e ≡ some x → s ≡ element 0x06 x ++ rest_of e
+    go : (e : Element) → first_element s ≡ e → object_in e ≡ Some x → s ≡ element 0x06 x ++ rest_of e
     go Bad f q = no_option q
     go (Whole tag c r) f q = tagged (eqb tag 6) (leb 1 (length c)) refl q
       where
-        tagged : (b d : Bool) → eqb tag 6 ≡ b → cond (b && d) (some c) none ≡ some x → s ≡ element 0x06 x ++ r
+        tagged : (b d : Bool) → eqb tag 6 ≡ b → cond (b && d) (Some c) None ≡ Some x → s ≡ element 0x06 x ++ r
         tagged true true t q =
             let e : c ≡ x = cc in
             rw (← eqb_eq tag 6 t, ← e) (element_front s tag c r f)
@@ -93,13 +93,13 @@ fewest_is (Two a b) y h p = two_fewest a b h.1.1.0 h.1.1.1.0 p
 
 -- an integer that is read has the fewest octets that say it, and octets follow it
 module _ (s : List ℕ) (h : AreOctets s) where
-  shortest : (o : IntegerOctets) → integer_in (first_element s) ≡ some o → o ≡ fewest (integer_of o)
+  shortest : (o : IntegerOctets) → integer_in (first_element s) ≡ Some o → o ≡ fewest (integer_of o)
   shortest o q = fewest_is o (rest_of (first_element s)) (subst AreOctets (integer_front s o q) h) (unpadded_is (integer_octets_in (first_element s)) o q).1
 
-  behind_integer : (o : IntegerOctets) → integer_in (first_element s) ≡ some o → AreOctets (rest_of (first_element s))
+  behind_integer : (o : IntegerOctets) → integer_in (first_element s) ≡ Some o → AreOctets (rest_of (first_element s))
   behind_integer o q = octets_behind (integer o) (rest_of (first_element s)) (subst AreOctets (integer_front s o q) h)
 
-  behind_object_lem : (x : List ℕ) → object_in (first_element s) ≡ some x → AreOctets (rest_of (first_element s))
+  behind_object_lem : (x : List ℕ) → object_in (first_element s) ≡ Some x → AreOctets (rest_of (first_element s))
   behind_object_lem x q = octets_behind (element 0x06 x) (rest_of (first_element s)) (subst AreOctets (object_front s x q) h)
 
 same_octets_lem : (x y : List ℕ) → same_octets x y ≡ true → x ≡ y
@@ -108,7 +108,7 @@ same_octets_lem [] (b ∷ y) h = absurd (let z : ◌≡◌ {A = ℕ} 0 1 = cc in
 same_octets_lem (a ∷ x) [] h = absurd (let z : ◌≡◌ {A = ℕ} 0 1 = cc in omega arith)
 same_octets_lem (a ∷ x) (b ∷ y) h = ap₂ (λ (n : ℕ) (l : List ℕ). n ∷ l) (eqb_eq a b (left (eqb a b) (same_octets x y) h)) (same_octets_lem x y (right (eqb a b) (same_octets x y) h))
 
-module _ (c : List ℕ) (h : AreOctets c) (o : IntegerOctets) (f : integer_in (first_element c) ≡ some o) where
+module _ (c : List ℕ) (h : AreOctets c) (o : IntegerOctets) (f : integer_in (first_element c) ≡ Some o) where
   -- what follows the identifier, and what follows the operation
   abbrev rest : List ℕ
   rest = rest_of (first_element c)
@@ -122,17 +122,17 @@ module _ (c : List ℕ) (h : AreOctets c) (o : IntegerOctets) (f : integer_in (f
   identified : (x : List ℕ) → rest ≡ x → c ≡ integer (fewest (integer_of o)) ++ x
   identified x e = rw (← shortest c h o f, ← e) (integer_front c o f)
 
-  execute_is : (v : IntegerOctets) → integer_in (first_element rest) ≡ some v → integer_of v ≡ pos 6 →
+  execute_is : (v : IntegerOctets) → integer_in (first_element rest) ≡ Some v → integer_of v ≡ pos 6 →
       behind 2 c ≡ [] → c ≡ integer (fewest (integer_of o)) ++ operation_octets EctExecute
   execute_is v g six e =
       let w : v ≡ fewest (pos 6) = shortest rest octets v g ∙ ap fewest six in
       identified (operation_octets EctExecute) (integer_front rest v g ∙ rw (e, w))
 
-  request_is : (x : List ℕ) → object_in (first_element rest) ≡ some x → x ≡ ect_object 0x04 →
+  request_is : (x : List ℕ) → object_in (first_element rest) ≡ Some x → x ≡ ect_object 0x04 →
       behind 2 c ≡ [] → c ≡ integer (fewest (integer_of o)) ++ operation_octets EctLinkIdRequest
   request_is x g four e = identified (operation_octets EctLinkIdRequest) (object_front rest x g ∙ rw (e, four))
 
-  explicit_is : (x : List ℕ) (v : IntegerOctets) → object_in (first_element rest) ≡ some x → x ≡ ect_object 0x01 → integer_in (first_element last) ≡ some v →
+  explicit_is : (x : List ℕ) (v : IntegerOctets) → object_in (first_element rest) ≡ Some x → x ≡ ect_object 0x01 → integer_in (first_element last) ≡ Some v →
       behind 3 c ≡ [] → c ≡ integer (fewest (integer_of o)) ++ operation_octets (ExplicitEctExecute (record { 0 = integer_of v }))
   explicit_is x v g one k e =
       let w : v ≡ fewest (integer_of v) = shortest last (behind_object_lem rest octets x g) v k in
@@ -148,7 +148,7 @@ no_invoke e = absurd (let z : ◌≡◌ {A = ℕ} 0 1 = cc in omega arith)
 abbrev Octets : List ℕ → IntegerOctets → Operation → Type 0
 Octets c o op = behind (looked_at op) c ≡ [] → c ≡ integer (fewest (integer_of o)) ++ operation_octets op
 
-module _ (c : List ℕ) (h : AreOctets c) (i o : IntegerOctets) (op : Operation) (f : integer_in (first_element c) ≡ some i) where
+module _ (c : List ℕ) (h : AreOctets c) (i o : IntegerOctets) (op : Operation) (f : integer_in (first_element c) ≡ Some i) where
   -- the same, of the invoke that was found
   found : (op' : Operation) → Octets c i op' → Invoked i op' ≡ Invoked o op → Octets c o op
   found op' h q =
@@ -159,19 +159,19 @@ module _ (c : List ℕ) (h : AreOctets c) (i o : IntegerOctets) (op : Operation)
   abbrev operation : List ℕ
   operation = rest_of (first_element c)
 
-  local_found : (v : IntegerOctets) → integer_in (first_element operation) ≡ some v → local_reading i v ≡ Invoked o op → Octets c o op
+  local_found : (v : IntegerOctets) → integer_in (first_element operation) ≡ Some v → local_reading i v ≡ Invoked o op → Octets c o op
   local_found v g q = go (same_integer (integer_of v) (pos 6)) refl q
     where
       go : (b : Bool) → same_integer (integer_of v) (pos 6) ≡ b → cond b (Invoked i EctExecute) (Rejected (Invoke i 1)) ≡ Invoked o op → Octets c o op
       go true s q = found EctExecute (execute_is c h i f v g (same_integer_eq (integer_of v) (pos 6) s)) q
       go false s q = no_invoke q
 
-  link_id_found : (x : List ℕ) → object_in (first_element operation) ≡ some x → x ≡ ect_object 0x01 →
+  link_id_found : (x : List ℕ) → object_in (first_element operation) ≡ Some x → x ≡ ect_object 0x01 →
       (l : Option IntegerOctets) → integer_in (first_element (rest_of (first_element operation))) ≡ l → link_id_reading i l ≡ Invoked o op → Octets c o op
-  link_id_found x g one none k q = no_invoke q
-  link_id_found x g one (some v) k q = found (ExplicitEctExecute (record { 0 = integer_of v })) (explicit_is c h i f x v g one k) q
+  link_id_found x g one None k q = no_invoke q
+  link_id_found x g one (Some v) k q = found (ExplicitEctExecute (record { 0 = integer_of v })) (explicit_is c h i f x v g one k) q
 
-  global_found : (x : List ℕ) → object_in (first_element operation) ≡ some x → global_reading i x (rest_of (first_element operation)) ≡ Invoked o op → Octets c o op
+  global_found : (x : List ℕ) → object_in (first_element operation) ≡ Some x → global_reading i x (rest_of (first_element operation)) ≡ Invoked o op → Octets c o op
   global_found x g q = go (same_octets x (ect_object 0x01)) (same_octets x (ect_object 0x04)) refl refl q
     where
       go : (b d : Bool) → same_octets x (ect_object 0x01) ≡ b → same_octets x (ect_object 0x04) ≡ d →
@@ -181,20 +181,20 @@ module _ (c : List ℕ) (h : AreOctets c) (i o : IntegerOctets) (op : Operation)
       go false false s t q = no_invoke q
 
   object_found : (x : Option (List ℕ)) → object_in (first_element operation) ≡ x → object_reading i x (rest_of (first_element operation)) ≡ Invoked o op → Octets c o op
-  object_found none g q = no_invoke q
-  object_found (some x) g q = global_found x g q
+  object_found None g q = no_invoke q
+  object_found (Some x) g q = global_found x g q
 
   operation_found : (v : Option IntegerOctets) → integer_in (first_element operation) ≡ v → operation_reading i v (first_element operation) ≡ Invoked o op → Octets c o op
-  operation_found none g q = object_found (object_in (first_element operation)) refl q
-  operation_found (some v) g q = local_found v g q
+  operation_found None g q = object_found (object_in (first_element operation)) refl q
+  operation_found (Some v) g q = local_found v g q
 
 invoke_found : (c : List ℕ) → AreOctets c → (o : IntegerOctets) (op : Operation) → invoke_reading c ≡ Invoked o op → Octets c o op
 unfolding invoke_reading identified_reading
 invoke_found c h o op q = go (integer_in (first_element c)) refl q
   where
     go : (x : Option IntegerOctets) → integer_in (first_element c) ≡ x → identifier_reading x (rest_of (first_element c)) ≡ Invoked o op → Octets c o op
-    go none f q = no_invoke q
-    go (some i) f q = operation_found c h i o op f (integer_in (first_element (rest_of (first_element c)))) refl q
+    go None f q = no_invoke q
+    go (Some i) f q = operation_found c h i o op f (integer_in (first_element (rest_of (first_element c)))) refl q
 
 -- ---- the whole component
 

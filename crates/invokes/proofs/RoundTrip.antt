@@ -1,5 +1,6 @@
 -- Written and read back, read and written back: over the contracts of `write_invoke` and of `component::read`. Assumes nothing.
 use Prim.{tt}
+use Rattle.std.specs.Prelude.{Result}
 use Prim.Native.Nat.{ℕ, ◌≤◌, ◌<◌}
 use native.Mathlib.Omega.{arith}
 use mathlib.Core.Path.{◌≡◌, refl, sym, ap, ap₂, ◌∙◌}
@@ -25,7 +26,7 @@ use Rattle.component.specs.declared.Reading.TheVariants.{Invoked}
 use Rattle.component.specs.Answers.{element, integer}
 use Rattle.elements.specs.Elements.{first_element, whole_elements, siblings}
 use Rattle.component.specs.Reading.{ect_object, reading, invoke_reading, identified_reading}
-use Rattle.invokes.specs.declared.WriteAnswer.{WriteAnswer}
+use Rattle.invokes.specs.declared.BufferTooSmall.{BufferTooSmall}
 use Rattle.invokes.specs.Invokes.{invoke_octets}
 use Rattle.invokes.specs.Contract.{answer_number, answer_count}
 use Rattle.invokes.specs.RoundTrip.{OperationInRange, ReadAs, NothingBehind}
@@ -36,14 +37,14 @@ use Rattle.invokes.proofs.write_invoke.Reads as write-contract
 -- ---- the premise beside `ReadMet`: a call of the writer that met its contract
 
 -- `write_invoke` was lent a buffer, returned w, and left the buffer as `after`
-pub record WriteMet (op : Operation) (i : InvokeIdentifier) (before : List ℕ) (w : WriteAnswer) (after : List ℕ) : Type 0 where
+pub record WriteMet (op : Operation) (i : InvokeIdentifier) (before : List ℕ) (w : Result ℕ BufferTooSmall) (after : List ℕ) : Type 0 where
   pub lifetimes : Lfts 1
   pub buffer_at : (ℕ × ℕ) × GName
   pub met : write-contract.Post lifetimes (op, (i, (lent buffer_at before, tt))) w (op, (i, (lent buffer_at after, tt)))
 
 -- ---- what the writer left
 
-module _ {op : Operation} {i : InvokeIdentifier} {before after : List ℕ} {w : WriteAnswer} (h : 32 ≤ length before) (p : WriteMet op i before w after) where
+module _ {op : Operation} {i : InvokeIdentifier} {before after : List ℕ} {w : Result ℕ BufferTooSmall} (h : 32 ≤ length before) (p : WriteMet op i before w after) where
   -- it wrote, and the octets that its answer counts are the invoke's
   pub accepted : answer_number w ≡ 0
   accepted = p.met.answer ∙ rw (le-ltb (length before) 32 h)
@@ -95,7 +96,7 @@ invoke_read EctLinkIdRequest i h k = request_read (fewest i.0) (unpadded i.0 h)
 
 -- what was written is read as the same operation and numbers, for every identifier and every LinkId from -32768 to 32767
 pub written_read : (op : Operation) (i : InvokeIdentifier) → InInt16Range i.0 → OperationInRange op →
-    (before after : List ℕ) (w : WriteAnswer) → 32 ≤ length before → WriteMet op i before w after →
+    (before after : List ℕ) (w : Result ℕ BufferTooSmall) → 32 ≤ length before → WriteMet op i before w after →
     (r : Reading) → ReadMet (take (answer_count w) after) r → (answer_number w ≡ 0) × ReadAs op i r
 written_read op i h k before after w room p r q =
     (accepted room p, record { received = fewest i.0; invoked = read_promise (take (answer_count w) after) r q ∙ ap reading (octets_are room p) ∙ invoke_read op i h k; identifier = said i.0 h })
@@ -109,7 +110,7 @@ invoke_is s h r q op i e p =
 
 -- and so what writing it gives
 pub read_written : (s : List ℕ) → AreOctets s → (r : Reading) → ReadMet s r → (op : Operation) (i : InvokeIdentifier) → ReadAs op i r → NothingBehind op s →
-    (before after : List ℕ) (w : WriteAnswer) → 32 ≤ length before → WriteMet op i before w after →
+    (before after : List ℕ) (w : Result ℕ BufferTooSmall) → 32 ≤ length before → WriteMet op i before w after →
     (answer_number w ≡ 0) × (take (answer_count w) after ≡ s)
 read_written s h r q op i e p before after w room k = (accepted room k, octets_are room k ∙ sym (invoke_is s h r q op i e p))
 

@@ -1,80 +1,68 @@
 // The invokes that a terminal sends, written for test sets as the component reads them.
 #![tactic(auto)]
 
-ghost use Rattle.std.specs.Prelude.{◌+◌, ◌≤◌, length, ◌≡◌};
+ghost use Rattle.std.specs.Prelude.{◌≡◌};
 ghost use Rattle.octets.specs.Numbers.{fewest};
-ghost use Rattle.octets.specs.Code.Putting.{Put};
+ghost use Rattle.filling.specs.Code.Putting.{HasRoom, Put};
 ghost use Rattle.component.specs.Answers.{element, integer};
 ghost use Rattle.component.specs.Reading.{ect_object};
 ghost use Rattle.invokes.specs.Invokes.{operation_octets};
 ghost use Rattle.invokes.specs.Contract.{Writes};
 
 use component::Operation;
-use octets::{IntegerOctets, InvokeIdentifier};
+use filling::Filling;
+use octets::{Integer, IntegerOctets, InvokeIdentifier};
+use std::error::Error;
+use std::fmt;
 
-// Written, with the number of octets; or refused.
-#[derive(Clone, Copy)]
-pub enum WriteAnswer {
-    Written(usize),
-    BufferTooSmall,
+// Why an invoke was not written: the buffer has fewer than 32 octets.
+#[derive(Clone, Copy, Debug)]
+pub struct BufferTooSmall;
+
+impl fmt::Display for BufferTooSmall {
+    fn fmt<W: fmt::Write>(&self, f: &mut fmt::Formatter<W>) -> fmt::Result {
+        write!(f, "the buffer has fewer than 32 octets")
+    }
 }
+
+impl Error for BufferTooSmall {}
 
 // An invoke identifier in the fewest octets.
 fn identifier_octets(identifier: InvokeIdentifier) -> IntegerOctets
     ensures { result ≡ fewest identifier.0 }
 {
-    identifier.to_integer().to_octets()
+    Integer::from(identifier).into()
 }
 
-// An integer element at a place of the buffer. Returns the place behind it.
-fn put_integer(o: IntegerOctets, at: usize, buffer: &mut [u8]) -> usize
-    requires { at + 4 ≤ length buffer.old }
-    ensures { Put (integer o) buffer.old buffer.new at result }
+fn put_integer(o: IntegerOctets, out: &mut Filling)
+    requires { HasRoom (integer o) out.old }
+    ensures { Put (integer o) out.old out.new }
 {
     match o {
-        IntegerOctets::One(a) => {
-            buffer[at] = 0x02;
-            buffer[at + 1] = 1;
-            buffer[at + 2] = a;
-            at + 3
-        }
-        IntegerOctets::Two(a, b) => {
-            buffer[at] = 0x02;
-            buffer[at + 1] = 2;
-            buffer[at + 2] = a;
-            buffer[at + 3] = b;
-            at + 4
-        }
+        IntegerOctets::One(a) => out.put(&[0x02, 1, a]),
+        IntegerOctets::Two(a, b) => out.put(&[0x02, 2, a, b]),
     }
 }
 
 // An object identifier of the supplementary service, with this last number.
-fn put_object(last: u8, at: usize, buffer: &mut [u8]) -> usize
-    requires { at + 8 ≤ length buffer.old }
-    ensures { Put (element 0x06 (ect_object last)) buffer.old buffer.new at result }
+fn put_object(last: u8, out: &mut Filling)
+    requires { HasRoom (element 0x06 (ect_object last)) out.old }
+    ensures { Put (element 0x06 (ect_object last)) out.old out.new }
 {
-    buffer[at] = 0x06;
-    buffer[at + 1] = 6;
-    buffer[at + 2] = 0x04;
-    buffer[at + 3] = 0x00;
-    buffer[at + 4] = 0x82;
-    buffer[at + 5] = 0x71;
-    buffer[at + 6] = 0x01;
-    buffer[at + 7] = last;
-    at + 8
+    out.put(&[0x06, 6, 0x04, 0x00, 0x82, 0x71, 0x01, last]);
 }
 
-fn put_operation(operation: Operation, at: usize, buffer: &mut [u8]) -> usize
-    requires { at + 12 ≤ length buffer.old }
-    ensures { Put (operation_octets operation) buffer.old buffer.new at result }
+fn put_operation(operation: Operation, out: &mut Filling)
+    requires { HasRoom (operation_octets operation) out.old }
+    ensures { Put (operation_octets operation) out.old out.new }
 {
     match operation {
-        Operation::EctExecute => put_integer(IntegerOctets::One(6), at, buffer),
+        Operation::EctExecute => put_integer(IntegerOctets::One(6), out),
         Operation::ExplicitEctExecute(link) => {
-            let next = put_object(0x01, at, buffer);
-            put_integer(link.to_integer().to_octets(), next, buffer)
+            put_object(0x01, out);
+            put_integer(Integer::from(link).into(), out);
         }
-        Operation::EctLinkIdRequest => put_object(0x04, at, buffer),
+        Operation::EctLinkIdRequest => put_object(0x04, out),
     }
 }
 
@@ -84,16 +72,18 @@ pub fn write_invoke(
     operation: Operation,
     identifier: InvokeIdentifier,
     buffer: &mut [u8],
-) -> WriteAnswer
+) -> Result<usize, BufferTooSmall>
     ensures { Writes operation identifier buffer.old result buffer.new }
 {
     if buffer.len() < 32 {
-        return WriteAnswer::BufferTooSmall;
+        return Err(BufferTooSmall);
     }
     // The length octet counts the contents, so they come first.
-    let behind = put_integer(identifier_octets(identifier), 2, buffer);
-    let end = put_operation(operation, behind, buffer);
+    let mut contents = Filling::new(buffer, 2);
+    put_integer(identifier_octets(identifier), &mut contents);
+    put_operation(operation, &mut contents);
+    let end = contents.end();
     buffer[0] = 0xa1;
     buffer[1] = (end - 2) as u8;
-    WriteAnswer::Written(end)
+    Ok(end)
 }

@@ -1,18 +1,24 @@
--- Numbers and octets as text, and texts written one after the other into a buffer. Assumes nothing.
-use Prim.Native.Nat.{ℕ, zero, suc, ◌+◌, ◌*◌, ◌/◌, ◌%◌, ◌≤◌, ◌<◌}
+-- Numbers and octets as text, and texts written into a buffer. Assumes nothing.
+use Prim.Native.Nat.{ℕ, zero, suc, ◌+◌, ◌*◌, ◌/◌, ◌%◌, ◌^◌, ◌≤◌, ◌<◌}
 use native.Mathlib.Nat.{zero-add}
 use native.Mathlib.Omega.{arith}
-use native.Mathlib.Numerals.{add-one}
-use mathlib.Core.Path.{◌≡◌, refl, ap, ◌∙◌}
+use mathlib.Core.Path.{◌≡◌, refl, sym, ap, ◌∙◌}
 use mathlib.Core.List.{List, [], ◌∷◌, ◌++◌}
 use native.Mathlib.Decide.{dec_lt}
-use lib.ListN.{length, get_or, take, length-append, length-take}
+use lib.Dec.{leb}
+use lib.ListN.{length, get_or, take, length-append}
 use lib.Seq.{take-suc}
+use native.Mathlib.Numerals.{add-one}
 use borrow.Author.Tests.{lt-ltb, le-ltb, le-leb, lt-leb}
+use Rattle.std.specs.Prelude.{Option, Some, None, IfSome, IfNone}
+use Rattle.std.specs.Option.{unwrap_or}
+use Rattle.std.specs.Fmt as std
+use Rattle.std.proofs.Math.Nat.{pow-succ'}
+use Rattle.std.proofs.lemmas.Fmt.{decimal_by_steps, length-decimal-le}
+use Rattle.filling.specs.Code.Putting.{HasRoom, Put}
+use Rattle.filling.specs.declared.Filling.{Filling}
 use Rattle.log_text.specs.Lines.{digit, decimal_in, decimal, hex_octet, hex_octets, octets_text, space, spaced, record_line, end_line}
 use Rattle.log_text.specs.Writing.{Fitted}
-use Rattle.octets.specs.Code.Putting.{Put}
-use Rattle.octets.proofs.Putting.{join}
 
 -- ---- numbers
 
@@ -43,42 +49,30 @@ length_small n h = ap length (decimal_small n h)
 pub length_more : (n : ℕ) → 10 ≤ n → length (decimal n) ≡ length (decimal (n / 10)) + 1
 length_more n h = ap length (decimal_more n h) ∙ length-append (decimal (n / 10)) (digit (n % 10) ∷ [])
 
-length_within : (f n : ℕ) → n < f → length (decimal n) ≤ n / 10 + 1
-length_within zero n p = absurd (omega arith)
-length_within (suc f) n p = go (dec_lt n 10) (length_within f (n / 10))
-  where
-    go : Dec (n < 10) → (n / 10 < f → length (decimal (n / 10)) ≤ n / 10 / 10 + 1) → length (decimal n) ≤ n / 10 + 1
-    go (yes h) more = omega (arith, length_small n h)
-    go (no h) more =
-        let e : 10 ≤ n = omega arith in
-        omega (arith, length_more n e, more (omega arith))
+-- the digits that std writes of a number that 64 bits hold
+pub decimal_written : (n : ℕ) → n < 2 ^ 64 → std.decimal n ≡ decimal n
+decimal_written = decimal_by_steps (λ n ds. ds ≡ decimal n) (λ n h. sym (decimal_small n h)) (λ n ds h e. ap (λ (l : List ℕ). l ++ (digit (n % 10) ∷ [])) e ∙ sym (decimal_more n h))
 
-pub decimal_length : (n : ℕ) → length (decimal n) ≤ n / 10 + 1
-decimal_length n = length_within (suc n) n (omega arith)
+pub decimal_short : (k n : ℕ) → 0 < k → n < 10 ^ k → n < 2 ^ 64 → length (decimal n) ≤ k
+decimal_short k n p h l = rw (← decimal_written n l) (length-decimal-le k n p h l)
 
--- the power of ten with k zeros behind the first
-abbrev pub tenfold : ℕ → ℕ
-tenfold zero = 10
-tenfold (suc k) = 10 * tenfold k
+some_power : (k : ℕ) → 1 ≤ 10 ^ k
+some_power zero = omega arith
+some_power (suc k) = omega (arith, some_power k, pow-succ' 10 k)
 
--- a number below it has at most k + 1 digits
-pub decimal_short : (k n : ℕ) → n < tenfold k → length (decimal n) ≤ suc k
-decimal_short zero n h = omega (arith, length_small n h)
-decimal_short (suc k) n h = go (dec_lt n 10) (decimal_short k (n / 10))
-  where
-    go : Dec (n < 10) → (n / 10 < tenfold k → length (decimal (n / 10)) ≤ suc k) → length (decimal n) ≤ suc (suc k)
-    go (yes e) more = omega (arith, length_small n e)
-    go (no e) more =
-        let m : 10 ≤ n = omega arith in
-        let p : n / 10 < tenfold k = omega (arith, h) in
-        omega (arith, length_more n m, more p)
+-- a number has one digit more than the tens that can be taken out of it as factors
+power_length : (k n : ℕ) → 10 ^ k ≤ n → n < 10 * 10 ^ k → length (decimal n) ≡ k + 1
+power_length zero n p q = length_small n (omega (arith, q))
+power_length (suc k) n p q =
+    let e = pow-succ' 10 k in
+    let m : 10 ≤ n = omega (arith, e, p, some_power k) in
+    omega (arith, length_more n m, power_length k (n / 10) (omega (arith, e, p)) (omega (arith, e, q)))
 
--- ---- texts written one after the other
-
--- one octet more of a text
-pub join_next : {a b c : List ℕ} {at m n : ℕ} (s : List ℕ) (i : ℕ) → i < length s → at + length s ≤ length a
-    → Put (take i s) a b at m → Put (get_or s i 0 ∷ []) b c m n → Put (take (i + 1) s) a c at n
-join_next s i h fits p q = rw (add-one i, take-suc s i 0 h) (join (omega (arith, length-take i s)) p q)
+-- by the logarithm, which 0 has not
+pub digits_by_log : (n : ℕ) (r : Option ℕ) → IfNone r (n ≡ 0) → IfSome r (λ k. 10 ^ k ≤ n) → IfSome r (λ k. n < 10 * 10 ^ k)
+    → unwrap_or r 0 + 1 ≡ length (decimal n)
+digits_by_log n None z p q = rw z (sym (length_small 0 (omega arith)))
+digits_by_log n (Some k) z p q = sym (power_length k n p q)
 
 -- ---- octets
 
@@ -118,39 +112,39 @@ octets_short [] = rw (text_none [] refl) (omega arith)
 octets_short (o ∷ s) = rw (text_some (o ∷ s) (omega arith)) (omega (arith, hex_length (o ∷ s)))
 
 -- the line of a record whose number 64 bits hold, and whose kind and number returned are octets
-pub line_short : (number kind returned : ℕ) (s : List ℕ) → number < 18446744073709551616 → kind < 256 → returned < 256 → length s ≤ 128
+pub line_short : (number kind returned : ℕ) (s : List ℕ) → number < 2 ^ 64 → kind < 256 → returned < 256 → length s ≤ 128
     → length (record_line number kind returned s) ≤ 512
 line_short number kind returned s h k r l = omega (
   arith,
   line_length number kind returned s,
-  decimal_short 19 number (omega (arith, h)),
-  decimal_length kind,
-  decimal_length returned,
+  decimal_short 20 number (omega arith) (omega (arith, h)) h,
+  decimal_short 3 kind (omega arith) (omega (arith, k)) (omega (arith, k)),
+  decimal_short 3 returned (omega arith) (omega (arith, r)) (omega (arith, r)),
   octets_short s,
 )
 
 pub end_length : (legs pairs links : ℕ) → length (end_line legs pairs links) ≡ length (decimal legs) + length (decimal pairs) + length (decimal links) + 7
 end_length legs pairs links = simp length-append (omega arith)
 
+-- ---- what fits
+
+pub none_fits : (s : List ℕ) (room : ℕ) → length s ≡ 0 → leb 1 room ≡ leb (length (octets_text s)) room
+none_fits s room h = rw (text_none s h)
+
+pub some_fit : (s : List ℕ) (room : ℕ) → 1 ≤ length s → leb (length s) (room / 2) ≡ leb (length (octets_text s)) room
+some_fit s room h = rw (text_some s h) (go (dec_lt (room / 2) (length s)))
+  where
+    go : Dec (room / 2 < length s) → leb (length s) (room / 2) ≡ leb (length (hex_octets s)) room
+    go (yes t) = lt-leb (length s) (room / 2) t ∙ sym (lt-leb (length (hex_octets s)) room (omega (arith, t, hex_length s)))
+    go (no t) = le-leb (length s) (room / 2) (omega (arith, t)) ∙ sym (le-leb (length (hex_octets s)) room (omega (arith, t, hex_length s)))
+
 -- ---- a text at the front
 
-pub put_all : {x a b : List ℕ} {n : ℕ} → length x ≤ length a → Put x a b 0 n → Fitted x a b n
-put_all {x} {a} {b} {n} h p =
+pub filled : {x out after : List ℕ} {n : ℕ} {f g : Filling} → f.buffer.now ≡ out → f.at ≡ 0 → length x ≤ length out → (HasRoom x f → Put x f g) → after ≡ g.buffer.now → n ≡ g.at → Fitted x out after (Some n)
+filled {x} {out} e z h p b c =
+    let q = p (rw (e, z) (omega (arith, h))) in
     record {
-      is = p.is ∙ rw (le-leb (length x) (length a) h);
-      count = p.place ∙ rw (zero-add (length x), le-leb (length x) (length a) h);
-      within = omega (arith, p.place);
+      is = b ∙ q.is ∙ rw (e, z, le-leb (length x) (length out) h);
+      count = ap Some (c ∙ q.place) ∙ rw (z, zero-add (length x), le-leb (length x) (length out) h);
+      within = omega (arith, c, q.place, z, h);
     }
-
-pub put_none : (x a : List ℕ) → length a < length x → Fitted x a a 0
-put_none x a h = record { is = simp (lt-leb (length x) (length a) h); count = simp (lt-leb (length x) (length a) h); within = omega arith }
-
--- a line of five texts
-pub put_five : {v w x y z a b c d e f : List ℕ} {i j k l m : ℕ} → length (v ++ (w ++ (x ++ (y ++ z)))) ≤ length a
-    → Put v a b 0 i → Put w b c i j → Put x c d j k → Put y d e k l → Put z e f l m → Fitted (v ++ (w ++ (x ++ (y ++ z)))) a f m
-put_five {v} {w} {x} {y} {z} h p q r s t =
-    let o = length-append v (w ++ (x ++ (y ++ z))) in
-    let o₂ = length-append w (x ++ (y ++ z)) in
-    let o₃ = length-append x (y ++ z) in
-    let o₄ = length-append y z in
-    put_all h (join (omega arith) p (join (omega arith) q (join (omega arith) r (join (omega arith) s t))))

@@ -1,105 +1,83 @@
 // The text of a log: a line for each record, the last line, and the two lines that are always the same.
 // Each call writes its line at the front of the buffer lent and returns how many octets that is. Where the line
-// does not fit it returns 0 and leaves the buffer untouched.
+// does not fit it returns `None` and leaves the buffer untouched.
+//
+// A `write!` may fail by its contract whatever room there is, and these lines are written wherever they fit: so the
+// digits are put into the buffer, which cannot fail.
 #![tactic(auto)]
 
-ghost use Rattle.std.specs.Prelude.{◌≡◌, [], ◌∷◌, ◌+◌, ◌/◌, ◌≤◌, ◌<◌, leb, length};
-ghost use Rattle.log_text.specs.Lines.{decimal, hex_digit, hex_octet, octets_text, spaced};
+ghost use Rattle.std.specs.Prelude.{◌≡◌, [], ◌∷◌, ◌++◌, ◌≤◌, ◌<◌, leb, length};
+ghost use Rattle.log_text.specs.Lines.{decimal, hex_digit, hex_octet, octets_text};
 ghost use Rattle.log_text.specs.Lines.{record_line, end_line, first_line, bad_options_line};
-ghost use Rattle.octets.specs.Code.Putting.{Put};
+ghost use Rattle.filling.specs.Code.Putting.{HasRoom, Put};
 ghost use Rattle.log_text.specs.Writing.{Fitted};
 
-const SPACE: u8 = 32;
+use filling::Filling;
 
-const LINE_FEED: u8 = 10;
+const SPACE: u8 = b' ';
 
-const DASH: u8 = 45;
+const LINE_FEED: u8 = b'\n';
+
+const DASH: u8 = b'-';
 
 // How many digits a number has in decimal.
 fn decimal_length(n: u64) -> usize
-    ensures { (result ≡ length (decimal n)) × (result ≤ n / 10 + 1) }
+    ensures { (result ≡ length (decimal n)) × (result ≤ 20) }
 {
-    let mut digits: usize = 1;
-    let mut rest = n;
-    while 10 <= rest {
-        rest /= 10;
-        digits += 1;
-    }
-    digits
+    n.checked_ilog10().unwrap_or(0) as usize + 1
 }
 
-fn put(octet: u8, at: usize, out: &mut [u8]) -> usize
-    requires { at + 1 ≤ length out.old }
-    ensures { Put (octet ∷ []) out.old out.new at result }
+fn put_decimal(n: u64, line: &mut Filling)
+    requires { HasRoom (decimal n) line.old }
+    ensures { Put (decimal n) line.old line.new }
 {
-    out[at] = octet;
-    at + 1
+    line.put(itoa::Buffer::new().format(n).as_bytes());
 }
 
-fn put_decimal(n: u64, at: usize, out: &mut [u8]) -> usize
-    requires { at + length (decimal n) ≤ length out.old }
-    ensures { Put (decimal n) out.old out.new at result }
+// A number in decimal, and the octet behind it.
+fn put_number(n: u64, behind: u8, line: &mut Filling)
+    requires { HasRoom (decimal n ++ (behind ∷ [])) line.old }
+    ensures { Put (decimal n ++ (behind ∷ [])) line.old line.new }
 {
-    if n < 10 {
-        return put(48 + (n as u8), at, out);
-    }
-    let last = put_decimal(n / 10, at, out);
-    put(48 + ((n % 10) as u8), last, out)
-}
-
-fn put_spaced(n: u64, at: usize, out: &mut [u8]) -> usize
-    requires { at + length (decimal n) + 1 ≤ length out.old }
-    ensures { Put (spaced n) out.old out.new at result }
-{
-    let end = put_decimal(n, at, out);
-    put(SPACE, end, out)
+    put_decimal(n, line);
+    line.put(&[behind]);
 }
 
 fn hex_digit(d: u8) -> u8
     requires { d < 16 }
     ensures { result ≡ hex_digit d }
 {
-    if d < 10 {
-        return 48 + d;
-    }
-    87 + d
+    if d < 10 { b'0' + d } else { b'a' - 10 + d }
 }
 
-fn put_octet(octet: u8, at: usize, out: &mut [u8]) -> usize
-    requires { at + 2 ≤ length out.old }
-    ensures { Put (hex_octet octet) out.old out.new at result }
+fn put_octet(octet: u8, line: &mut Filling)
+    requires { HasRoom (hex_octet octet) line.old }
+    ensures { Put (hex_octet octet) line.old line.new }
 {
-    let half = put(hex_digit(octet / 16), at, out);
-    put(hex_digit(octet % 16), half, out)
+    line.put(&[hex_digit(octet / 16), hex_digit(octet % 16)]);
 }
 
-fn put_octets(octets: &[u8], at: usize, out: &mut [u8]) -> usize
-    requires { at + length (octets_text octets.now) ≤ length out.old }
-    ensures { Put (octets_text octets.now) out.old out.new at result }
+fn put_octets(octets: &[u8], line: &mut Filling)
+    requires { HasRoom (octets_text octets.now) line.old }
+    ensures { Put (octets_text octets.now) line.old line.new }
 {
-    if octets.len() == 0 {
-        return put(DASH, at, out);
+    if octets.is_empty() {
+        line.put(&[DASH]);
+        return;
     }
-    let mut next = at;
-    let mut i = 0;
-    while i < octets.len() {
-        next = put_octet(octets[i], next, out);
-        i += 1;
+    for octet in octets {
+        put_octet(*octet, line);
     }
-    next
 }
 
-fn put_text(text: &[u8], at: usize, out: &mut [u8]) -> usize
-    requires { at + length text.now ≤ length out.old }
-    ensures { Put text.now out.old out.new at result }
+fn octets_fit(octets: &[u8], room: usize) -> bool
+    ensures { result ≡ leb (length (octets_text octets.now)) room }
 {
-    let mut next = at;
-    let mut i = 0;
-    while i < text.len() {
-        next = put(text[i], next, out);
-        i += 1;
+    if octets.is_empty() {
+        1 <= room
+    } else {
+        octets.len() <= room / 2
     }
-    next
 }
 
 // Whether a record's line has room. Its length is not computed where the octets are more than the room holds.
@@ -107,73 +85,74 @@ fn record_fits(number: u64, kind: u8, returned: u8, octets: &[u8], room: usize) 
     ensures { result ≡ leb (length (record_line number kind returned octets.now)) room }
 {
     let fields = decimal_length(number)
-        + decimal_length(kind as u64)
-        + decimal_length(returned as u64)
+        + decimal_length(u64::from(kind))
+        + decimal_length(u64::from(returned))
         + 4;
-    if room < fields {
-        return false;
+    match room.checked_sub(fields) {
+        Some(left) => octets_fit(octets, left),
+        None => false,
     }
-    let left = room - fields;
-    if octets.len() == 0 {
-        if left < 1 {
-            return false;
-        }
-        return true;
-    }
-    if left / 2 < octets.len() {
-        return false;
-    }
-    true
 }
 
 // The line of a record: its number, its kind, what was returned, and the octets written.
-pub fn record_line(number: u64, kind: u8, returned: u8, octets: &[u8], out: &mut [u8]) -> usize
+pub fn record_line(
+    number: u64,
+    kind: u8,
+    returned: u8,
+    octets: &[u8],
+    out: &mut [u8],
+) -> Option<usize>
     ensures { Fitted (record_line number kind returned octets.now)
         out.old out.new result }
 {
-    if record_fits(number, kind, returned, octets, out.len()) {
-        let after_number = put_spaced(number, 0, out);
-        let after_kind = put_spaced(kind as u64, after_number, out);
-        let after_returned = put_spaced(returned as u64, after_kind, out);
-        let after_octets = put_octets(octets, after_returned, out);
-        return put(LINE_FEED, after_octets, out);
+    if !record_fits(number, kind, returned, octets, out.len()) {
+        return None;
     }
-    0
+    let mut line = Filling::new(out, 0);
+    put_number(number, SPACE, &mut line);
+    put_number(u64::from(kind), SPACE, &mut line);
+    put_number(u64::from(returned), SPACE, &mut line);
+    put_octets(octets, &mut line);
+    line.put(&[LINE_FEED]);
+    Some(line.end())
 }
 
 // The last line: how many legs, pairs and live LinkIds the board has.
-pub fn end_line(legs: u64, pairs: u64, links: u64, out: &mut [u8]) -> usize
+pub fn end_line(legs: u64, pairs: u64, links: u64, out: &mut [u8]) -> Option<usize>
     ensures { Fitted (end_line legs pairs links) out.old out.new result }
 {
     let length = decimal_length(legs) + decimal_length(pairs) + decimal_length(links) + 7;
     if out.len() < length {
-        return 0;
+        return None;
     }
-    let after_word = put_text(b"end ", 0, out);
-    let after_legs = put_spaced(legs, after_word, out);
-    let after_pairs = put_spaced(pairs, after_legs, out);
-    let after_links = put_decimal(links, after_pairs, out);
-    put(LINE_FEED, after_links, out)
+    let mut line = Filling::new(out, 0);
+    line.put(b"end ");
+    put_number(legs, SPACE, &mut line);
+    put_number(pairs, SPACE, &mut line);
+    put_number(links, LINE_FEED, &mut line);
+    Some(line.end())
 }
 
-fn place(text: &[u8], out: &mut [u8]) -> usize
+fn place(text: &[u8], out: &mut [u8]) -> Option<usize>
     ensures { Fitted text.now out.old out.new result }
 {
     if out.len() < text.len() {
-        return 0;
+        return None;
     }
-    put_text(text, 0, out)
+    let mut line = Filling::new(out, 0);
+    line.put(text);
+    Some(line.end())
 }
 
 // The first line.
-pub fn first_line(out: &mut [u8]) -> usize
+pub fn first_line(out: &mut [u8]) -> Option<usize>
     ensures { Fitted first_line out.old out.new result }
 {
     place(b"ect 1\n", out)
 }
 
 // The only line, where the options are bad or missing.
-pub fn bad_options_line(out: &mut [u8]) -> usize
+pub fn bad_options_line(out: &mut [u8]) -> Option<usize>
     ensures { Fitted bad_options_line out.old out.new result }
 {
     place(b"bad options\n", out)

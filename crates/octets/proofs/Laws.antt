@@ -1,122 +1,20 @@
--- Integers and LinkIds by cases on the sign: what signed arithmetic at sixteen bits gives, the octets, and reading back what is written. Assumes nothing.
-use Prim.Native.Nat.{ℕ, zero, suc, ◌+◌, ◌-◌, ◌*◌, ◌/◌, ◌%◌, ◌≤◌, ◌<◌}
+-- Integers by cases on the sign: the fewest octets, and reading back what is written. Assumes nothing.
+use Prim.Native.Nat.{ℕ, ◌+◌, ◌-◌, ◌*◌, ◌/◌, ◌%◌, ◌≤◌, ◌<◌}
 use native.Mathlib.Omega.{arith}
 use native.Mathlib.Decide.{ℕ_discrete, dec_lt}
-use mathlib.Core.Path.{◌≡◌, refl, sym, ap, ap₂, ◌∙◌}
+use mathlib.Core.Path.{◌≡◌, sym, ap, ap₂, ◌∙◌}
 use mathlib.Core.Bool.{true, false, ◌||◌}
-use lib.Dec.{T, eqb}
-use lib.IntN.{ℤ, pos, negsuc, nat_abs, ◌+ℤ◌, ◌-ℤ◌}
-use lib.Signed.{mag, le_z, non_neg}
-use mir.Syntax.{w16}
-use mir.Val.{Fits, SFits, of_z}
+use lib.Dec.{eqb}
+use lib.IntN.{ℤ, pos, negsuc}
+use lib.Signed.{mag}
 use borrow.Author.Tests.{lt-ltb, le-ltb, eq-eqb, ne_eqb}
 use Rattle.octets.specs.declared.IntegerOctets.TheVariants.{One, Two}
-use Rattle.octets.specs.declared.Integer.{Integer}
-use Rattle.octets.specs.declared.LinkId.{LinkId}
-use Rattle.octets.specs.Numbers.{signed, bits, integer_of, first_nine, padded, fewest, next_link_id, same_integer}
+use Rattle.octets.specs.Numbers.{signed, bits, integer_of, first_nine, padded, fewest}
 
 no_way : {A : Type 0} → false ≡ true → A
 no_way e = absurd (let z : ◌≡◌ {A = ℕ} 0 1 = cc in omega arith)
 
--- a LinkId is its number
-pub link : {x y : ℤ} → x ≡ y → ◌≡◌ {A = LinkId} (record { 0 = x }) (record { 0 = y })
-link e = ap (λ (z : ℤ). record { 0 = z }) e
-
--- and an integer of a component its own
-pub integer : {x y : ℤ} → x ≡ y → ◌≡◌ {A = Integer} (record { 0 = x }) (record { 0 = y })
-integer e = ap (λ (z : ℤ). record { 0 = z }) e
-
--- ---- -1 - z
-pub less_pos : (k : ℕ) → negsuc 0 -ℤ pos k ≡ negsuc k
-less_pos zero = refl
-less_pos (suc k) = ap negsuc (omega arith)
-
-less_neg : (k : ℕ) → negsuc 0 -ℤ negsuc k ≡ pos k
-less_neg k = rw (le-ltb (suc k) 1 (omega arith)) (ap pos (omega arith))
-
--- ---- the bits of a number that is not below 0
-pub cast_pos : (z : ℤ) → SFits w16 z → le_z (pos 0) z ≡ true → T (non_neg z) × Fits w16 (nat_abs z)
-cast_pos (pos n) f e = (tt, record { fits = omega (arith, f.sfits) })
-cast_pos (negsuc n) f e = no_way e
-
-pub bits_pos : (z : ℤ) → le_z (pos 0) z ≡ true → nat_abs z ≡ bits z
-bits_pos (pos n) e = refl
-bits_pos (negsuc n) e = no_way e
-
--- ---- the bits of a number below 0
-pub record Below (z : ℤ) : Type 0 where
-  pub k : ℕ
-  pub is : negsuc 0 -ℤ z ≡ pos k
-  pub small : k < 32768
-  pub bits_are : 65535 - k ≡ bits z
-
-pub below : (z : ℤ) → SFits w16 z → le_z (pos 0) z ≡ false → Below z
-below (pos n) f e = no_way (sym e ∙ lib.Dec.leb-zero n)
-below (negsuc n) f e = record { k = n; is = less_neg n; small = omega (arith, f.sfits); bits_are = refl }
-
--- ---- the number of sixteen bits
-pub signed_low : (n : ℕ) → n < 32768 → pos n ≡ signed n
-signed_low n h = simp (lt-ltb n 32768 h)
-
-pub signed_high : (n : ℕ) → 32768 ≤ n → negsuc (65535 - n) ≡ signed n
-signed_high n h = simp (le-ltb n 32768 h)
-
--- ---- the number after
-pub next_fits : (z : ℤ) → SFits w16 z → (of_z w16 z ≡ 32767 → ⊥) → SFits w16 (z +ℤ pos 1)
-next_fits (pos n) f h = record { sfits = omega (arith, f.sfits) }
-next_fits (negsuc zero) f h = record { sfits = omega arith }
-next_fits (negsuc (suc n)) f h = rw (lt-ltb 1 (suc (suc n)) (omega arith)) (record { sfits = omega (arith, f.sfits) })
-
-pub next_is : (z : ℤ) → (of_z w16 z ≡ 32767 → ⊥) → z +ℤ pos 1 ≡ next_link_id z
-next_is (pos n) h = simp (ne_eqb n 32767 h) (ap pos (omega arith))
-next_is (negsuc zero) h = refl
-next_is (negsuc (suc n)) h = rw (lt-ltb 1 (suc (suc n)) (omega arith)) (ap negsuc (omega arith))
-
-pub next_wraps : (z : ℤ) → SFits w16 z → of_z w16 z ≡ 32767 → negsuc 32767 ≡ next_link_id z
-next_wraps (pos n) f h = simp (eq-eqb n 32767 h)
-next_wraps (negsuc n) f h = absurd (omega (arith, f.sfits))
-
--- ---- integers are the same where their bits are
-pub same_is : (x y : ℤ) → SFits w16 x → SFits w16 y → eqb (of_z w16 x) (of_z w16 y) ≡ same_integer x y
-same_is (pos m) (pos n) f g = refl
-same_is (pos m) (negsuc n) f g = ne_eqb m (65536 - suc n) (λ (h : m ≡ 65536 - suc n). apart f g h)
-  where
-    apart : SFits w16 (pos m) → SFits w16 (negsuc n) → m ≡ 65536 - suc n → ⊥
-    apart f g h = let p : m < 32768 = f.sfits in let q : n < 32768 = g.sfits in omega arith
-same_is (negsuc m) (pos n) f g = ne_eqb (65536 - suc m) n (λ (h : 65536 - suc m ≡ n). apart f g h)
-  where
-    apart : SFits w16 (negsuc m) → SFits w16 (pos n) → 65536 - suc m ≡ n → ⊥
-    apart f g h = let p : m < 32768 = f.sfits in let q : n < 32768 = g.sfits in omega arith
-same_is (negsuc m) (negsuc n) f g = flip (ℕ_discrete m n)
-  where
-    flip : Dec (m ≡ n) → eqb (65536 - suc m) (65536 - suc n) ≡ eqb m n
-    flip (yes e) = eq-eqb (65536 - suc m) (65536 - suc n) (omega arith) ∙ sym (eq-eqb m n e)
-    flip (no h) =
-        let p : m < 32768 = f.sfits in
-        let q : n < 32768 = g.sfits in
-        ne_eqb (65536 - suc m) (65536 - suc n) (λ (e : 65536 - suc m ≡ 65536 - suc n). h (omega arith)) ∙ sym (ne_eqb m n h)
-
--- ---- one octet widened by its sign
-pub one_low : (a : ℕ) → a < 128 → signed a ≡ integer_of (One a)
-one_low a h =
-    let e : a < 32768 = omega arith in
-    simp (lt-ltb a 32768 e, lt-ltb a 128 h)
-
-pub one_high : (a : ℕ) → 128 ≤ a → a < 256 → signed (65280 + a) ≡ integer_of (One a)
-one_high a h k =
-    let e : 32768 ≤ 65280 + a = omega arith in
-    simp (le-ltb (65280 + a) 32768 e, le-ltb a 128 h) (ap negsuc (omega arith))
-
 -- ---- the fewest octets
-pub fewest_low : (z : ℤ) → mag z < 32768 → bits z < 128 → One (bits z % 256) ≡ fewest z
-fewest_low (pos n) f h = simp (lt-ltb n 128 h) (ap One (omega arith))
-fewest_low (negsuc n) f h = absurd (omega arith)
-
-pub fewest_high : (z : ℤ) → mag z < 32768 → 65408 ≤ bits z → One (bits z % 256) ≡ fewest z
-fewest_high (pos n) f h = absurd (omega arith)
-fewest_high (negsuc n) f h =
-    let e : n < 128 = omega arith in
-    simp (lt-ltb n 128 e) (ap One (omega arith))
 
 pub fewest_two : (z : ℤ) → 128 ≤ bits z → bits z < 65408 → Two (bits z / 256) (bits z % 256) ≡ fewest z
 fewest_two (pos n) h k = simp (le-ltb n 128 h)

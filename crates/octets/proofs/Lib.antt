@@ -5,5 +5,5 @@ pub mod Lent
 pub mod Lists
 pub mod Loops
 pub mod Places
-pub mod Putting
 pub mod SameInteger
+pub mod Library

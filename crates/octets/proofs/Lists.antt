@@ -1,4 +1,5 @@
 -- Laws of tests, filters and look-ups over lists, and of lists that differ in their order alone.
+use Rattle.std.specs.Prelude.{None, Option, Some}
 use Prim.Native.Nat.{◌+◌, ◌≤◌, ℕ, suc, suc-le-suc, zero-le}
 use native.Mathlib.Nat.{le_step, le_of_suc-le-suc, not-suc-le-zero, suc-ne-zero, le_refl}
 use native.Mathlib.Omega.{arith}
@@ -6,7 +7,6 @@ use mathlib.Core.Path.{◌∙◌, ◌≡◌, ap, refl, subst, subst⁻¹, sym, a
 use mathlib.Core.Logic.{◌⊎◌, inl, inr}
 use mathlib.Core.Bool.{Bool, true, not, false, ◌&&◌, ◌||◌}
 use mathlib.Core.List.{◌∷◌, List, Memᴰ, [], map}
-use mathlib.Core.Option.{none, some, Option}
 use lib.Dec.{T, eqb, eqb→eq, eqb_refl}
 use lib.ListN.{length}
 use Rattle.octets.specs.Lists.{any, all, cons_if, filter, find, or_else, cons_opt, only, filter_map, distinct}
@@ -161,19 +161,19 @@ module _ {A : Type 0} where
       go false u = absurd (true_not_false u refl)
   mem_filter p (Memᴰ.tail {x = x} m) t = cons_if_later (p x) x (mem_filter p m t)
 
-  pub find_mem : (p : A → Bool) (l : List A) {y : A} → find p l ≡ some y → Memᴰ y l × (p y ≡ true)
+  pub find_mem : (p : A → Bool) (l : List A) {y : A} → find p l ≡ Some y → Memᴰ y l × (p y ≡ true)
   find_mem p [] {y} e = let z : ◌≡◌ {A = ℕ} 0 1 = cc in absurd (omega arith)
   find_mem p (x ∷ l) {y} e = go (p x) refl e (find_mem p l {y = y})
     where
-      go : (b : Bool) → p x ≡ b → or_else b x (find p l) ≡ some y → (find p l ≡ some y → Memᴰ y l × (p y ≡ true)) → Memᴰ y (x ∷ l) × (p y ≡ true)
+      go : (b : Bool) → p x ≡ b → or_else b x (find p l) ≡ Some y → (find p l ≡ Some y → Memᴰ y l × (p y ≡ true)) → Memᴰ y (x ∷ l) × (p y ≡ true)
       go true h e f = let d : x ≡ y = cc in (Memᴰ.head (sym d), ap p (sym d) ∙ h)
       go false h e f = let r = f e in (Memᴰ.tail r.0, r.1)
 
-  pub find_none : (p : A → Bool) (l : List A) → find p l ≡ none → any p l ≡ false
+  pub find_none : (p : A → Bool) (l : List A) → find p l ≡ None → any p l ≡ false
   find_none p [] e = refl
   find_none p (x ∷ l) e = go (p x) e (find_none p l)
     where
-      go : (b : Bool) → or_else b x (find p l) ≡ none → (find p l ≡ none → any p l ≡ false) → (b || any p l) ≡ false
+      go : (b : Bool) → or_else b x (find p l) ≡ None → (find p l ≡ None → any p l ≡ false) → (b || any p l) ≡ false
       go true e f = let z : ◌≡◌ {A = ℕ} 0 1 = cc in absurd (omega arith)
       go false e f = f e
 
@@ -190,13 +190,9 @@ module _ {A : Type 0} where
   filter_ext p q [] f = refl
   filter_ext p q (x ∷ l) f = ap₂ (λ (b : Bool) (r : List A). cons_if b x r) (f x) (filter_ext p q l f)
 
-  pub cons_if_le : (b : Bool) (x : A) (l : List A) (n : ℕ) → length l ≤ n → length (cons_if b x l) ≤ suc n
-  cons_if_le true x l n h = suc-le-suc h
-  cons_if_le false x l n h = le_step h
-
   unfoldable pub head_of : List A → Option A
-  head_of [] = none
-  head_of (x ∷ l) = some x
+  head_of [] = None
+  head_of (x ∷ l) = Some x
 
   pub find_filter : (p : A → Bool) (l : List A) → find p l ≡ head_of (filter p l)
   unfolding head_of
@@ -282,14 +278,14 @@ module _ {A : Type 0} where
   filter_perm p (p_trans h k) = p_trans (filter_perm p h) (filter_perm p k)
 
   cons_opt_perm : (o : Option A) {l m : List A} → Perm l m → Perm (cons_opt o l) (cons_opt o m)
-  cons_opt_perm none p = p
-  cons_opt_perm (some x) p = p_skip p
+  cons_opt_perm None p = p
+  cons_opt_perm (Some x) p = p_skip p
 
   cons_opt_swap : (o u : Option A) (l : List A) → Perm (cons_opt o (cons_opt u l)) (cons_opt u (cons_opt o l))
-  cons_opt_swap none none l = p_refl l
-  cons_opt_swap none (some y) l = p_refl (y ∷ l)
-  cons_opt_swap (some x) none l = p_refl (x ∷ l)
-  cons_opt_swap (some x) (some y) l = p_swap
+  cons_opt_swap None None l = p_refl l
+  cons_opt_swap None (Some y) l = p_refl (y ∷ l)
+  cons_opt_swap (Some x) None l = p_refl (x ∷ l)
+  cons_opt_swap (Some x) (Some y) l = p_swap
 
   pub small_perm : {l m : List A} → Perm l m → length l ≤ 1 → l ≡ m
   small_perm p_nil h = refl
@@ -359,30 +355,30 @@ module _ {A B : Type 0} where
 module _ {B : Type 0} where
   -- ---- filter_map
 
-  pub cons_opt_mem : (o : Option B) {y : B} {l : List B} → Memᴰ y (cons_opt o l) → (o ≡ some y) ⊎ Memᴰ y l
-  cons_opt_mem none m = inr m
-  cons_opt_mem (some z) (Memᴰ.head e) = inl (ap {B = Option B} some (sym e))
-  cons_opt_mem (some z) (Memᴰ.tail m) = inr m
+  pub cons_opt_mem : (o : Option B) {y : B} {l : List B} → Memᴰ y (cons_opt o l) → (o ≡ Some y) ⊎ Memᴰ y l
+  cons_opt_mem None m = inr m
+  cons_opt_mem (Some z) (Memᴰ.head e) = inl (ap {B = Option B} Some (sym e))
+  cons_opt_mem (Some z) (Memᴰ.tail m) = inr m
 
   pub cons_opt_later : (o : Option B) {y : B} {l : List B} → Memᴰ y l → Memᴰ y (cons_opt o l)
-  cons_opt_later none m = m
-  cons_opt_later (some z) m = Memᴰ.tail m
+  cons_opt_later None m = m
+  cons_opt_later (Some z) m = Memᴰ.tail m
 
 module _ {A B : Type 0} where
-  pub filter_map_mem : (f : A → Option B) (l : List A) {y : B} → Memᴰ y (filter_map f l) → (x : A) × Memᴰ x l × (f x ≡ some y)
+  pub filter_map_mem : (f : A → Option B) (l : List A) {y : B} → Memᴰ y (filter_map f l) → (x : A) × Memᴰ x l × (f x ≡ Some y)
   filter_map_mem f [] m = elim m [ ]
   filter_map_mem f (x ∷ l) {y} m = go (cons_opt_mem (f x) m) (filter_map_mem f l {y = y})
     where
-      go : (f x ≡ some y) ⊎ Memᴰ y (filter_map f l) → (Memᴰ y (filter_map f l) → (z : A) × Memᴰ z l × (f z ≡ some y)) → (z : A) × Memᴰ z (x ∷ l) × (f z ≡ some y)
+      go : (f x ≡ Some y) ⊎ Memᴰ y (filter_map f l) → (Memᴰ y (filter_map f l) → (z : A) × Memᴰ z l × (f z ≡ Some y)) → (z : A) × Memᴰ z (x ∷ l) × (f z ≡ Some y)
       go (inl e) g = (x, Memᴰ.head refl, e)
       go (inr k) g = let r = g k in (r.0, Memᴰ.tail r.1, r.2)
 
-  pub mem_filter_map : (f : A → Option B) {x : A} {l : List A} {y : B} → Memᴰ x l → f x ≡ some y → Memᴰ y (filter_map f l)
+  pub mem_filter_map : (f : A → Option B) {x : A} {l : List A} {y : B} → Memᴰ x l → f x ≡ Some y → Memᴰ y (filter_map f l)
   mem_filter_map f {y} (Memᴰ.head {x = x} {xs = l} e) h = go (f x) (ap f (sym e) ∙ h)
     where
-      go : (o : Option B) → o ≡ some y → Memᴰ y (cons_opt o (filter_map f l))
-      go none u = let z : ◌≡◌ {A = ℕ} 0 1 = cc in absurd (omega arith)
-      go (some w) u = let d : w ≡ y = cc in Memᴰ.head (sym d)
+      go : (o : Option B) → o ≡ Some y → Memᴰ y (cons_opt o (filter_map f l))
+      go None u = let z : ◌≡◌ {A = ℕ} 0 1 = cc in absurd (omega arith)
+      go (Some w) u = let d : w ≡ y = cc in Memᴰ.head (sym d)
   mem_filter_map f (Memᴰ.tail {x = x} m) h = cons_opt_later (f x) (mem_filter_map f m h)
 
   -- what passes in a filter_map comes from what passes in the list
@@ -402,8 +398,8 @@ module _ {A B : Type 0} where
       skip false k = k
 
       go : (o : Option B) (c : Bool) → has p o ≡ c → length (filter p (filter_map f l)) ≤ length (filter q l) → length (filter p (cons_opt o (filter_map f l))) ≤ length (cons_if c x (filter q l))
-      go none c e k = skip c k
-      go (some y) c e k = put (p y) c y e k
+      go None c e k = skip c k
+      go (Some y) c e k = put (p y) c y e k
 
 module _ {A : Type 0} where
   pub small_mem : (l : List A) {x y : A} → length l ≤ 1 → Memᴰ x l → Memᴰ y l → x ≡ y
@@ -424,7 +420,7 @@ module _ {A : Type 0} where
       last (Memᴰ.tail k) = elim k [ ]
   small_one (a ∷ (b ∷ l)) h m = absurd (not-suc-le-zero (le_of_suc-le-suc h))
 
-  pub only_mem : (l : List A) {x : A} → only l ≡ some x → Memᴰ x l
+  pub only_mem : (l : List A) {x : A} → only l ≡ Some x → Memᴰ x l
   only_mem [] e = let z : ◌≡◌ {A = ℕ} 0 1 = cc in absurd (omega arith)
   only_mem (y ∷ []) {x} e = let d : y ≡ x = cc in Memᴰ.head (sym d)
   only_mem (y ∷ (z ∷ l)) e = let z : ◌≡◌ {A = ℕ} 0 1 = cc in absurd (omega arith)

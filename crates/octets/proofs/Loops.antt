@@ -1,11 +1,11 @@
 -- Laws of loops over a list, one step at a time, and of tests of what `filter_map` gives of a list: they turn a loop over rows into a test of entries.
+use Rattle.std.specs.Prelude.{None, Option, Some}
 use Prim.Native.Nat.{ℕ, suc, ◌+◌, ◌≤◌, ◌<◌}
 use native.Mathlib.Numerals.{add-one}
 use native.Mathlib.Omega.{arith}
 use mathlib.Core.Path.{◌≡◌, refl, sym, ap, ap₂, ◌∙◌}
 use mathlib.Core.Bool.{Bool, true, false, ◌&&◌, ◌||◌, not}
 use mathlib.Core.List.{List, [], ◌∷◌, ◌++◌, Memᴰ}
-use mathlib.Core.Option.{Option, none, some}
 use lib.ListN.{length, get_or, take, drop, drop_of_length-le}
 use lib.Seq.{drop-cons, length-take-le, get_or-take}
 use Rattle.octets.specs.Lists.{any, all, cons_if, filter, distinct, cons_opt, filter_map}
@@ -87,9 +87,6 @@ module _ {A : Type 0} where
   length_cons_if true x l = omega arith
   length_cons_if false x l = omega arith
 
-  pub count_start : (p : A → Bool) (ys : List A) → Counting p ys 0 0
-  count_start p ys = record { within = omega arith; total = omega arith }
-
   pub count_step : {p : A → Bool} {ys : List A} {i n : ℕ} {x : A} → Step ys i x → (k : ℕ) → k ≡ bit (p x) → Counting p ys i n → Counting p ys (i + 1) (n + k)
   count_step {p} {ys} {i} {n} {x} s k e t =
       let l = bit_le (p x) in
@@ -109,28 +106,28 @@ module _ {A B : Type 0} (f : A → Option B) where
   all_filter_map p (x ∷ l) = go (f x) (all_filter_map p l)
     where
       go : (o : Option B) → all p (filter_map f l) ≡ all (λ (x : A). none_or p (f x)) l → all p (cons_opt o (filter_map f l)) ≡ (none_or p o && all (λ (x : A). none_or p (f x)) l)
-      go none e = e
-      go (some y) e = ap (λ (b : Bool). p y && b) e
+      go None e = e
+      go (Some y) e = ap (λ (b : Bool). p y && b) e
 
   pub any_filter_map : (p : B → Bool) (l : List A) → any p (filter_map f l) ≡ any (λ (x : A). has p (f x)) l
   any_filter_map p [] = refl
   any_filter_map p (x ∷ l) = go (f x) (any_filter_map p l)
     where
       go : (o : Option B) → any p (filter_map f l) ≡ any (λ (x : A). has p (f x)) l → any p (cons_opt o (filter_map f l)) ≡ (has p o || any (λ (x : A). has p (f x)) l)
-      go none e = e
-      go (some y) e = ap (λ (b : Bool). p y || b) e
+      go None e = e
+      go (Some y) e = ap (λ (b : Bool). p y || b) e
 
-  any_none : (t : B → B → Bool) (l : List A) → any (λ (x : A). has_both t none (f x)) l ≡ false
+  any_none : (t : B → B → Bool) (l : List A) → any (λ (x : A). has_both t None (f x)) l ≡ false
   any_none t [] = refl
   any_none t (x ∷ l) = any_none t l
 
-  any_some : (t : B → B → Bool) (y : B) (l : List A) → any (t y) (filter_map f l) ≡ any (λ (x : A). has_both t (some y) (f x)) l
+  any_some : (t : B → B → Bool) (y : B) (l : List A) → any (t y) (filter_map f l) ≡ any (λ (x : A). has_both t (Some y) (f x)) l
   any_some t y [] = refl
   any_some t y (x ∷ l) = go (f x) (any_some t y l)
     where
-      go : (o : Option B) → any (t y) (filter_map f l) ≡ any (λ (x : A). has_both t (some y) (f x)) l → any (t y) (cons_opt o (filter_map f l)) ≡ (has_both t (some y) o || any (λ (x : A). has_both t (some y) (f x)) l)
-      go none e = e
-      go (some z) e = ap (λ (b : Bool). t y z || b) e
+      go : (o : Option B) → any (t y) (filter_map f l) ≡ any (λ (x : A). has_both t (Some y) (f x)) l → any (t y) (cons_opt o (filter_map f l)) ≡ (has_both t (Some y) o || any (λ (x : A). has_both t (Some y) (f x)) l)
+      go None e = e
+      go (Some z) e = ap (λ (b : Bool). t y z || b) e
 
   pub distinct_filter_map : (t : B → B → Bool) (l : List A) → distinct t (filter_map f l) ≡ distinct (λ (x y : A). has_both t (f x) (f y)) l
   distinct_filter_map t [] = refl
@@ -138,8 +135,8 @@ module _ {A B : Type 0} (f : A → Option B) where
     where
       go : (o : Option B) → distinct t (filter_map f l) ≡ distinct (λ (x y : A). has_both t (f x) (f y)) l →
           distinct t (cons_opt o (filter_map f l)) ≡ (not (any (λ (y : A). has_both t o (f y)) l) && distinct (λ (x y : A). has_both t (f x) (f y)) l)
-      go none e = rw (any_none t l) e
-      go (some y) e = ap₂ (λ (b c : Bool). not b && c) (any_some t y l) e
+      go None e = rw (any_none t l) e
+      go (Some y) e = ap₂ (λ (b c : Bool). not b && c) (any_some t y l) e
 
   pub length_filter_filter_map : (p : B → Bool) (l : List A) → length (filter p (filter_map f l)) ≡ length (filter (λ (x : A). has p (f x)) l)
   length_filter_filter_map p [] = refl
@@ -152,8 +149,8 @@ module _ {A B : Type 0} (f : A → Option B) where
 
       go : (o : Option B) → length (filter p (filter_map f l)) ≡ length (filter (λ (x : A). has p (f x)) l) →
           length (filter p (cons_opt o (filter_map f l))) ≡ length (cons_if (has p o) x (filter (λ (x : A). has p (f x)) l))
-      go none e = e
-      go (some y) e = same (p y) y e
+      go None e = e
+      go (Some y) e = same (p y) y e
 
   pub length_filter_map : (l : List A) → length (filter_map f l) ≡ length (filter (λ (x : A). has (λ (y : B). true) (f x)) l)
   length_filter_map [] = refl
@@ -161,12 +158,12 @@ module _ {A B : Type 0} (f : A → Option B) where
     where
       go : (o : Option B) → length (filter_map f l) ≡ length (filter (λ (x : A). has (λ (y : B). true) (f x)) l) →
           length (cons_opt o (filter_map f l)) ≡ length (cons_if (has (λ (y : B). true) o) x (filter (λ (x : A). has (λ (y : B). true) (f x)) l))
-      go none e = e
-      go (some y) e = ap suc e
+      go None e = e
+      go (Some y) e = ap suc e
 
 module _ {A B : Type 0} where
   -- an element at the end that gives nothing
-  pub filter_map_skip : (f : A → Option B) (l : List A) (x : A) → f x ≡ none → filter_map f (l ++ (x ∷ [])) ≡ filter_map f l
+  pub filter_map_skip : (f : A → Option B) (l : List A) (x : A) → f x ≡ None → filter_map f (l ++ (x ∷ [])) ≡ filter_map f l
   filter_map_skip f [] x e = rw e
   filter_map_skip f (y ∷ l) x e = ap (cons_opt (f y)) (filter_map_skip f l x e)
 

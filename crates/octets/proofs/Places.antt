@@ -1,4 +1,5 @@
 -- Laws of places in a list: the lowest place that passes a test, the element there, and what a loop that goes through the places has so far.
+use Rattle.std.specs.Prelude.{None, Option, Some, option_map}
 use Prim.Native.Nat.{ℕ, zero, suc, ◌+◌, ◌-◌, ◌≤◌, ◌<◌, zero-le, suc-le-suc}
 use native.Mathlib.Nat.{le_of_suc-le-suc, not-suc-le-zero}
 use native.Mathlib.Numerals.{add-one}
@@ -6,8 +7,6 @@ use native.Mathlib.Omega.{arith}
 use mathlib.Core.Path.{◌≡◌, refl, sym, ap, ap₂, ◌∙◌, subst}
 use mathlib.Core.Bool.{Bool, true, false, ◌||◌}
 use mathlib.Core.List.{List, [], ◌∷◌, ◌++◌, map}
-use mathlib.Core.Option
-use mathlib.Core.Option.{Option, none, some}
 use lib.ListN.{length, get_or, set, take, drop, drop_of_length-le, length-drop}
 use lib.Seq.{drop-cons, take_all}
 use Rattle.octets.specs.Lists.{any, or_else, find, cons_opt, filter_map, place_from}
@@ -22,7 +21,7 @@ told e h = sym e ∙ h
 
 module _ {A : Type 0} (p : A → Bool) (l : List A) (i : ℕ) where
   module _ (d : A) (r : Bool) (h : i < length l) (e : r ≡ p (get_or l i d)) where
-    pub place_yes : r ≡ true → some i ≡ place_from p i (drop i l)
+    pub place_yes : r ≡ true → Some i ≡ place_from p i (drop i l)
     unfolding place_from
     place_yes t = rw (drop-cons l i d h, told e t)
 
@@ -30,25 +29,25 @@ module _ {A : Type 0} (p : A → Bool) (l : List A) (i : ℕ) where
     unfolding place_from
     place_no t = rw (drop-cons l i d h, told e t, add-one)
 
-  pub place_end : length l ≤ i → none ≡ place_from p i (drop i l)
+  pub place_end : length l ≤ i → None ≡ place_from p i (drop i l)
   unfolding place_from
   place_end h = rw (drop_of_length-le l h)
 
 -- ---- the lowest place
 
 module _ {A : Type 0} where
-  place_suc : (p : A → Bool) (k : ℕ) (l : List A) → place_from p (suc k) l ≡ Option.map suc (place_from p k l)
+  place_suc : (p : A → Bool) (k : ℕ) (l : List A) → place_from p (suc k) l ≡ option_map suc (place_from p k l)
   unfolding place_from
   place_suc p k [] = refl
   place_suc p k (x ∷ l) = go (p x) (place_suc p (suc k) l)
     where
-      go : (b : Bool) → place_from p (suc (suc k)) l ≡ Option.map suc (place_from p (suc k) l) →
-          or_else b (suc k) (place_from p (suc (suc k)) l) ≡ Option.map suc (or_else b k (place_from p (suc k) l))
+      go : (b : Bool) → place_from p (suc (suc k)) l ≡ option_map suc (place_from p (suc k) l) →
+          or_else b (suc k) (place_from p (suc (suc k)) l) ≡ option_map suc (or_else b k (place_from p (suc k) l))
       go true e = refl
       go false e = e
 
   -- the search of a list by that of its tail
-  pub place_cons : (p : A → Bool) (x : A) (l : List A) → place_from p 0 (x ∷ l) ≡ or_else (p x) 0 (Option.map suc (place_from p 0 l))
+  pub place_cons : (p : A → Bool) (x : A) (l : List A) → place_from p 0 (x ∷ l) ≡ or_else (p x) 0 (option_map suc (place_from p 0 l))
   unfolding place_from
   place_cons p x l = ap (λ (o : Option ℕ). or_else (p x) 0 o) (place_suc p 0 l)
 
@@ -58,7 +57,7 @@ module _ {A : Type 0} where
     pub passes : p (get_or l i d) ≡ true
     pub earlier : (j : ℕ) → j < i → p (get_or l j d) ≡ false
 
-  pub place_lowest : (p : A → Bool) (d : A) (l : List A) (i : ℕ) → place_from p 0 l ≡ some i → Lowest p d l i
+  pub place_lowest : (p : A → Bool) (d : A) (l : List A) (i : ℕ) → place_from p 0 l ≡ Some i → Lowest p d l i
   unfolding place_from
   place_lowest p d [] i e = let z : ◌≡◌ {A = ℕ} 0 1 = cc in absurd (omega arith)
   place_lowest p d (x ∷ l) i e = go (p x) refl (place_from p 0 l) (place_lowest p d l) (sym (place_cons p x l) ∙ e)
@@ -67,42 +66,42 @@ module _ {A : Type 0} where
       before i b f zero h = b
       before i b f (suc j) h = f j (le_of_suc-le-suc h)
 
-      go : (b : Bool) → p x ≡ b → (o : Option ℕ) → ((j : ℕ) → o ≡ some j → Lowest p d l j) → or_else b 0 (Option.map suc o) ≡ some i → Lowest p d (x ∷ l) i
+      go : (b : Bool) → p x ≡ b → (o : Option ℕ) → ((j : ℕ) → o ≡ Some j → Lowest p d l j) → or_else b 0 (option_map suc o) ≡ Some i → Lowest p d (x ∷ l) i
       go true b o f q =
           let z : 0 ≡ i = cc in
           rw (sym z) (record { within = suc-le-suc zero-le; passes = b; earlier = λ j h. absurd (not-suc-le-zero h) })
-      go false b none f q = let z : ◌≡◌ {A = ℕ} 0 1 = cc in absurd (omega arith)
-      go false b (some j) f q =
+      go false b None f q = let z : ◌≡◌ {A = ℕ} 0 1 = cc in absurd (omega arith)
+      go false b (Some j) f q =
           let z : suc j ≡ i = cc in
           let r = f j refl in
           rw (sym z) (record { within = suc-le-suc r.within; passes = r.passes; earlier = before j b r.earlier })
 
-  pub place_none : (p : A → Bool) (l : List A) → place_from p 0 l ≡ none → any p l ≡ false
+  pub place_none : (p : A → Bool) (l : List A) → place_from p 0 l ≡ None → any p l ≡ false
   unfolding place_from
   place_none p [] e = refl
   place_none p (x ∷ l) e = go (p x) (place_from p 0 l) (place_none p l) (sym (place_cons p x l) ∙ e)
     where
-      go : (b : Bool) (o : Option ℕ) → (o ≡ none → any p l ≡ false) → or_else b 0 (Option.map suc o) ≡ none → (b || any p l) ≡ false
+      go : (b : Bool) (o : Option ℕ) → (o ≡ None → any p l ≡ false) → or_else b 0 (option_map suc o) ≡ None → (b || any p l) ≡ false
       go true o f q = let z : ◌≡◌ {A = ℕ} 0 1 = cc in absurd (omega arith)
-      go false none f q = f refl
-      go false (some j) f q = let z : ◌≡◌ {A = ℕ} 0 1 = cc in absurd (omega arith)
+      go false None f q = f refl
+      go false (Some j) f q = let z : ◌≡◌ {A = ℕ} 0 1 = cc in absurd (omega arith)
 
-  pub place_some : (p : A → Bool) (l : List A) (i : ℕ) → place_from p 0 l ≡ some i → any p l ≡ true
+  pub place_some : (p : A → Bool) (l : List A) (i : ℕ) → place_from p 0 l ≡ Some i → any p l ≡ true
   unfolding place_from
   place_some p [] i e = let z : ◌≡◌ {A = ℕ} 0 1 = cc in absurd (omega arith)
   place_some p (x ∷ l) i e = go (p x) (place_from p 0 l) (place_some p l) (sym (place_cons p x l) ∙ e)
     where
-      go : (b : Bool) (o : Option ℕ) → ((j : ℕ) → o ≡ some j → any p l ≡ true) → or_else b 0 (Option.map suc o) ≡ some i → (b || any p l) ≡ true
+      go : (b : Bool) (o : Option ℕ) → ((j : ℕ) → o ≡ Some j → any p l ≡ true) → or_else b 0 (option_map suc o) ≡ Some i → (b || any p l) ≡ true
       go true o f q = refl
-      go false none f q = let z : ◌≡◌ {A = ℕ} 0 1 = cc in absurd (omega arith)
-      go false (some j) f q = f j refl
+      go false None f q = let z : ◌≡◌ {A = ℕ} 0 1 = cc in absurd (omega arith)
+      go false (Some j) f q = f j refl
 
-  pub none_place : (p : A → Bool) (l : List A) → any p l ≡ false → place_from p 0 l ≡ none
+  pub none_place : (p : A → Bool) (l : List A) → any p l ≡ false → place_from p 0 l ≡ None
   none_place p l a = go (place_from p 0 l) refl
     where
-      go : (o : Option ℕ) → place_from p 0 l ≡ o → place_from p 0 l ≡ none
-      go none e = e
-      go (some i) e = absurd (true_not_false (place_some p l i e) a)
+      go : (o : Option ℕ) → place_from p 0 l ≡ o → place_from p 0 l ≡ None
+      go None e = e
+      go (Some i) e = absurd (true_not_false (place_some p l i e) a)
 
   pub place_ext : (p q : A → Bool) (k : ℕ) (l : List A) → ((x : A) → p x ≡ q x) → place_from p k l ≡ place_from q k l
   unfolding place_from
@@ -114,35 +113,35 @@ module _ {A : Type 0} where
 module _ {A B : Type 0} where
   -- what f finds in the element at a place, if there is one
   abbrev pub value_at : (A → Option B) → A → List A → Option ℕ → Option B
-  value_at f d l none = none
-  value_at f d l (some i) = f (get_or l i d)
+  value_at f d l None = None
+  value_at f d l (Some i) = f (get_or l i d)
 
-  value_at_suc : (f : A → Option B) (d x : A) (l : List A) (o : Option ℕ) → value_at f d l o ≡ value_at f d (x ∷ l) (Option.map suc o)
-  value_at_suc f d x l none = refl
-  value_at_suc f d x l (some i) = refl
+  value_at_suc : (f : A → Option B) (d x : A) (l : List A) (o : Option ℕ) → value_at f d l o ≡ value_at f d (x ∷ l) (option_map suc o)
+  value_at_suc f d x l None = refl
+  value_at_suc f d x l (Some i) = refl
 
   pub find_filter_map : (q : B → Bool) (f : A → Option B) (d : A) (l : List A) → find q (filter_map f l) ≡ value_at f d l (place_from (λ (x : A). has q (f x)) 0 l)
   unfolding place_from
   find_filter_map q f d [] = refl
   find_filter_map q f d (x ∷ l) = go (f x) refl (find_filter_map q f d l) ∙ ap (value_at f d (x ∷ l)) (sym (place_cons (λ (y : A). has q (f y)) x l))
     where
-      here : (b : Bool) (y : B) → f x ≡ some y → find q (filter_map f l) ≡ value_at f d l (place_from (λ (y : A). has q (f y)) 0 l) →
-          or_else b y (find q (filter_map f l)) ≡ value_at f d (x ∷ l) (or_else b 0 (Option.map suc (place_from (λ (y : A). has q (f y)) 0 l)))
+      here : (b : Bool) (y : B) → f x ≡ Some y → find q (filter_map f l) ≡ value_at f d l (place_from (λ (y : A). has q (f y)) 0 l) →
+          or_else b y (find q (filter_map f l)) ≡ value_at f d (x ∷ l) (or_else b 0 (option_map suc (place_from (λ (y : A). has q (f y)) 0 l)))
       here true y e h = sym e
       here false y e h = h ∙ value_at_suc f d x l (place_from (λ (y : A). has q (f y)) 0 l)
 
       go : (u : Option B) → f x ≡ u → find q (filter_map f l) ≡ value_at f d l (place_from (λ (y : A). has q (f y)) 0 l) →
-          find q (cons_opt u (filter_map f l)) ≡ value_at f d (x ∷ l) (or_else (has q u) 0 (Option.map suc (place_from (λ (y : A). has q (f y)) 0 l)))
-      go none e h = h ∙ value_at_suc f d x l (place_from (λ (y : A). has q (f y)) 0 l)
-      go (some y) e h = here (q y) y e h
+          find q (cons_opt u (filter_map f l)) ≡ value_at f d (x ∷ l) (or_else (has q u) 0 (option_map suc (place_from (λ (y : A). has q (f y)) 0 l)))
+      go None e h = h ∙ value_at_suc f d x l (place_from (λ (y : A). has q (f y)) 0 l)
+      go (Some y) e h = here (q y) y e h
 
   pub any_filter_map : (q : B → Bool) (f : A → Option B) (l : List A) → any q (filter_map f l) ≡ any (λ (x : A). has q (f x)) l
   any_filter_map q f [] = refl
   any_filter_map q f (x ∷ l) = go (f x) (any_filter_map q f l)
     where
       go : (u : Option B) → any q (filter_map f l) ≡ any (λ (y : A). has q (f y)) l → any q (cons_opt u (filter_map f l)) ≡ (has q u || any (λ (y : A). has q (f y)) l)
-      go none e = e
-      go (some y) e = ap (λ (b : Bool). q y || b) e
+      go None e = e
+      go (Some y) e = ap (λ (b : Bool). q y || b) e
 
   pub filter_map_ext : (f g : A → Option B) (l : List A) → ((x : A) → f x ≡ g x) → filter_map f l ≡ filter_map g l
   filter_map_ext f g [] h = refl
@@ -155,8 +154,8 @@ module _ {A B C : Type 0} where
   filter_map_filter_map g f (x ∷ l) = go (f x) (filter_map_filter_map g f l)
     where
       go : (u : Option B) → filter_map g (filter_map f l) ≡ filter_map (λ (y : A). bind_option g (f y)) l → filter_map g (cons_opt u (filter_map f l)) ≡ cons_opt (bind_option g u) (filter_map (λ (y : A). bind_option g (f y)) l)
-      go none e = e
-      go (some y) e = ap (λ (r : List C). cons_opt (g y) r) e
+      go None e = e
+      go (Some y) e = ap (λ (r : List C). cons_opt (g y) r) e
 
 -- ---- a loop that changes each element: those before i are changed, and those from i on are as they were
 

@@ -1,3 +1,2 @@
 -- Definitions that describe code, for its proofs: no rule of document 01 stands here.
 pub mod Appending
-pub mod Putting

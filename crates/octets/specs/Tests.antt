@@ -1,29 +1,28 @@
 -- What may be there or not: tests of it, what is found in it; and a test as a number.
-use Rattle.std.specs.Prelude.{ℕ, Bool, true, false}
-use Rattle.std.proofs.Math.Option.{Option, none, some}
+use Rattle.std.specs.Prelude.{ℕ, Bool, true, false, None, Option, Some}
 
-module _ {ℓ} {A : Type ℓ} where
+module _ {A : Type 0} where
   -- there is something, and it passes the test
   abbrev pub has : (A → Bool) → Option A → Bool
-  has p none = false
-  has p (some x) = p x
+  has p None = false
+  has p (Some x) = p x
 
   -- there is nothing, or it passes the test
   abbrev pub none_or : (A → Bool) → Option A → Bool
-  none_or p none = true
-  none_or p (some x) = p x
+  none_or p None = true
+  none_or p (Some x) = p x
 
   -- both are there, and the test holds of the two
   abbrev pub has_both : (A → A → Bool) → Option A → Option A → Bool
-  has_both t none o = false
-  has_both t (some x) none = false
-  has_both t (some x) (some y) = t x y
+  has_both t None o = false
+  has_both t (Some x) None = false
+  has_both t (Some x) (Some y) = t x y
 
-module _ {ℓ κ} {A : Type ℓ} {B : Type κ} where
+module _ {A B : Type 0} where
   -- what f finds in what is there
   abbrev pub bind_option : (A → Option B) → Option A → Option B
-  bind_option f none = none
-  bind_option f (some x) = f x
+  bind_option f None = None
+  bind_option f (Some x) = f x
 
 -- 1 where a test holds, for counts
 abbrev pub bit : Bool → ℕ

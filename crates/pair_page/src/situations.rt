@@ -1,50 +1,31 @@
 // A call in each situation.
-use board::{AuxiliaryState, Call, CallState, Direction, OptionalLinkId};
+use board::{AuxiliaryState, Call, CallState, Direction};
 use octets::CallReference;
+use std::array;
 
-fn state_at(place: usize) -> CallState {
-    if place == 0 {
-        return CallState::OutgoingCallProceeding;
-    }
-    if place == 1 {
-        return CallState::CallDelivered;
-    }
-    if place == 2 {
-        return CallState::CallReceived;
-    }
-    CallState::Active
-}
+static STATES: [CallState; 4] = [
+    CallState::OutgoingCallProceeding,
+    CallState::CallDelivered,
+    CallState::CallReceived,
+    CallState::Active,
+];
 
-fn auxiliary_at(number: usize) -> AuxiliaryState {
-    if number == 0 {
-        return AuxiliaryState::Idle;
-    }
-    if number == 1 {
-        return AuxiliaryState::HoldRequest;
-    }
-    if number == 2 {
-        return AuxiliaryState::CallHeld;
-    }
-    AuxiliaryState::RetrieveRequest
-}
+static AUXILIARIES: [AuxiliaryState; 4] = [
+    AuxiliaryState::Idle,
+    AuxiliaryState::HoldRequest,
+    AuxiliaryState::CallHeld,
+    AuxiliaryState::RetrieveRequest,
+];
 
-fn direction_at(number: usize) -> Direction {
-    if number == 0 {
-        return Direction::Outgoing;
-    }
-    Direction::Incoming
-}
+static DIRECTIONS: [Direction; 2] = [Direction::Outgoing, Direction::Incoming];
 
-// A call whose situation has the number.
-pub fn call_at(situation: usize) -> Call {
-    let state = state_at(situation / 8);
-    let auxiliary = auxiliary_at(situation / 2 % 4);
-    let direction = direction_at(situation % 2);
-    Call {
+// In the order of their numbers.
+pub fn situations() -> [Call; 32] {
+    array::from_fn(|s| Call {
         reference: CallReference(1),
-        direction,
-        state,
-        auxiliary,
-        link: OptionalLinkId::Absent,
-    }
+        direction: DIRECTIONS[s % 2],
+        state: STATES[s / 8],
+        auxiliary: AUXILIARIES[s / 2 % 4],
+        link: None,
+    })
 }

@@ -1,14 +1,15 @@
 -- What `tell` makes of a record, and what one record more makes of a piece. Assumes nothing.
 use Prim.Native.Nat.{ℕ, zero, suc, ◌+◌, ◌-◌, ◌≤◌, ◌<◌}
 use native.Mathlib.Omega.{arith}
-use borrow.Author.Tests.{le-leb, lt-leb, le-ltb, lt-ltb, eq-eqb, ne_eqb, eqb-false}
+use borrow.Author.Tests.{le-leb, lt-leb, le-ltb, lt-ltb, eq-eqb, ne_eqb, eqb-true, eqb-false}
+use Rattle.std.specs.Prelude.{Option, None, Some, IsSome}
+use Rattle.std.proofs.lemmas.Option.{none-some, same_Some}
 use lib.Dec.{eqb, leb, ltb}
 use mathlib.Core.Bool.{Bool, true, false, cond}
 use mathlib.Core.Path.{◌≡◌, ◌∙◌, ap, refl, sym}
 use mathlib.Core.List.{List, [], ◌∷◌}
 use lib.ListN.{length, get_or, take, drop, length-append, length-drop}
 use Rattle.board.specs.declared.Board.{Board}
-use Rattle.events.specs.Records.{record_length}
 use Rattle.rules.specs.Replies.{octets}
 use Rattle.rules.specs.Step.{Outcome}
 use Rattle.ect.proofs.CallHistory.{replies_are}
@@ -19,7 +20,7 @@ use Rattle.log_text.specs.Lines.{record_line}
 use Rattle.log_text.specs.Writing.{Fitted}
 use Rattle.playing.specs.declared.Pause.TheVariants.{MoreInput, FullOutput, End}
 use Rattle.playing.specs.Log.{outcome_line, judged, stops_reading, largest_number}
-use Rattle.playing.specs.Playing.{front_length, piece_record, piece_line, longest_line, pause_at_end, Playing, pausing, with_record, play_from, playing, PlaysRecordAs}
+use Rattle.playing.specs.Playing.{front_length, front, piece_record, piece_line, longest_line, pause_at_end, Playing, pausing, with_record, play_from, playing, PlaysRecordAs}
 
 module _ {o : Outcome} {before after : List ℕ} {r : Stepped} (s : OutcomeOf o before r after) where
   -- the octets written lie in the buffer
@@ -30,7 +31,7 @@ module _ {o : Outcome} {before after : List ℕ} {r : Stepped} (s : OutcomeOf o 
       omega (arith, s.count, ap length s.buffer)
 
   pub told : {number returned count written : ℕ} {event out out' : List ℕ} → returned ≡ answer_number r.answer → count ≡ answer_count r.answer
-      → Fitted (record_line number (get_or event 0 0) returned (take count after)) out out' written
+      → Fitted (record_line number (get_or event 0 0) returned (take count after)) out out' (Some written)
       → length (outcome_line number event o) ≤ longest_line
       → PlaysRecordAs o number event out out' (record { board = r.board; returned = returned; written = written })
   told e f p h =
@@ -47,17 +48,30 @@ pub outcome_short : (o : Outcome) (number : ℕ) (event : List ℕ) → number <
     → o.returned < 256 → length (octets o.replies) ≤ 128 → length (outcome_line number event o) ≤ longest_line
 outcome_short o number event h k r l = line_short number (get_or event 0 0) o.returned (octets o.replies) h k r l
 
+-- a line that fits is written
+pub written : {text before after : List ℕ} {r : Option ℕ} → Fitted text before after r → length text ≤ length before → IsSome r
+written {text} {before} p h = rw (p.count, le-leb (length text) (length before) h)
+
 -- ---- the record in front of a piece
 
-module _ (last : Bool) (piece : List ℕ) (n : ℕ) (e : n ≡ record_length (get_or piece 0 0)) where
-  pub front_whole : n ≤ length piece → n ≡ front_length last piece
-  front_whole h = rw (sym e, le-leb n (length piece) h)
+module _ (last : Bool) (piece : List ℕ) where
+  -- a piece of the record's length, or of its length where it is cut
+  pub front_none : None ≡ front last piece → front_length last piece ≡ 0
+  front_none = go (eqb (front_length last piece) 0) refl
+    where
+      go : (b : Bool) → eqb (front_length last piece) 0 ≡ b → None ≡ cond b None (Some (front_length last piece)) → front_length last piece ≡ 0
+      go true h e = eqb-true (front_length last piece) 0 h
+      go false h e = absurd (none-some (front_length last piece) e)
 
-  pub front_cut : length piece < n → last ≡ true → length piece ≡ front_length last piece
-  front_cut h t = rw (sym e, lt-leb n (length piece) h, t)
-
-  pub front_later : length piece < n → last ≡ false → 0 ≡ front_length last piece
-  front_later h t = rw (sym e, lt-leb n (length piece) h, t)
+  pub front_some : {n : ℕ} → Some n ≡ front last piece → (n ≡ front_length last piece) × (0 < n)
+  front_some {n} = go (eqb (front_length last piece) 0) refl
+    where
+      go : (b : Bool) → eqb (front_length last piece) 0 ≡ b → Some n ≡ cond b None (Some (front_length last piece)) → (n ≡ front_length last piece) × (0 < n)
+      go true h e = absurd (none-some n (sym e))
+      go false h e =
+          let k = eqb-false (front_length last piece) 0 h in
+          let q = same_Some n (front_length last piece) e in
+          (q, omega (arith, q, k))
 
 -- ---- one record of a piece, with what comes behind it
 

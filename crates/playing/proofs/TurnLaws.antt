@@ -3,6 +3,8 @@ use Prim.Native.Nat.{ℕ, ◌+◌, ◌-◌, ◌≤◌, ◌<◌}
 use native.Mathlib.Omega.{arith}
 use native.Mathlib.Nat.{zero-add}
 use borrow.Author.Tests.{le-leb}
+use Rattle.std.specs.Prelude.{Some}
+use Rattle.std.proofs.lemmas.Option.{same_Some}
 use mathlib.Core.Bool.{Bool, true, false}
 use mathlib.Core.Path.{◌≡◌, ◌∙◌, ap, refl, sym, subst}
 use mathlib.Core.List.{List, [], ◌++◌, append-nil, append_assoc}
@@ -54,12 +56,12 @@ module _ {b₀ b : Board} {n₀ n read text : ℕ} {piece out₀ out : List ℕ}
 
 -- a line behind what is written: the buffer's part from there on holds it, and the rest is kept
 line_behind : (out₀ out written line part part' : List ℕ) (text w : ℕ) → text ≡ length written → out ≡ written ++ drop text out₀ → text ≤ length out →
-    part ≡ drop text out → length line ≤ length part → Fitted line part part' w →
+    part ≡ drop text out → length line ≤ length part → Fitted line part part' (Some w) →
     (w ≡ length line) × (take text out ++ (part' ++ drop (length out - text) (drop text out)) ≡ (written ++ line) ++ drop (text + w) out₀)
 line_behind out₀ out written line part part' text w c o h s l p =
     let t = le-leb (length line) (length part) l in
     let i : part' ≡ line ++ drop (length line) part = rw t at p.is in
-    let k : w ≡ length line = rw t at p.count in
+    let k : w ≡ length line = same_Some w (length line) (rw t at p.count) in
     let a : take text out ≡ written = rw o (take_at written (drop text out₀) text (sym c)) in
     let d : drop text out ≡ drop text out₀ = ap (drop text) o ∙ drop_at written (drop text out₀) text (sym c) in
     let e : drop (length out - text) (drop text out) ≡ [] = drop_of_length-le (drop text out) {i = length out - text} (omega (arith, length-drop text out)) in

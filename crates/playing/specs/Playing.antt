@@ -1,5 +1,5 @@
 -- What `play` makes of a piece of a log: as many records as the piece has whole and the buffer has room for.
-use Rattle.std.specs.Prelude.{ℕ, zero, suc, ◌+◌, ◌-◌, ◌≤◌, ◌≡◌, Bool, true, false, cond, List, [], ◌∷◌, ◌++◌, eqb, leb, ltb, length, take, drop, get_or}
+use Rattle.std.specs.Prelude.{ℕ, zero, suc, ◌+◌, ◌-◌, ◌≤◌, ◌≡◌, Bool, true, false, cond, List, [], ◌∷◌, ◌++◌, eqb, leb, ltb, length, take, drop, get_or, Option, None, Some}
 use Rattle.board.specs.declared.Board.{Board}
 use Rattle.events.specs.Records.{record_length}
 use Rattle.rules.specs.Step.{Outcome, step_tested}
@@ -16,6 +16,10 @@ use Rattle.playing.specs.Log.{outcome_line, judged, stops_reading, largest_numbe
 -- how much of a piece the record in front of it takes; 0 where the record goes on behind the piece
 abbrev pub front_length : Bool → List ℕ → ℕ
 front_length last piece = cond (leb (record_length (get_or piece 0 0)) (length piece)) (record_length (get_or piece 0 0)) (cond last (length piece) 0)
+
+-- the same, `None` where the record goes on behind the piece
+abbrev pub front : Bool → List ℕ → Option ℕ
+front last piece = cond (eqb (front_length last piece) 0) None (Some (front_length last piece))
 
 -- the record in front of a piece, and its line
 abbrev pub piece_record : Bool → List ℕ → List ℕ
@@ -84,7 +88,7 @@ Plays b n piece last before after r = PlaysAs (playing b n piece last (length be
 pub record PlaysRecordAs (o : Outcome) (number : ℕ) (event before after : List ℕ) (r : PlayedRecord) : Type 0 where
   pub board : r.board ≡ o.board
   pub returned : r.returned ≡ o.returned
-  pub line : Fitted (outcome_line number event o) before after r.written
+  pub line : Fitted (outcome_line number event o) before after (Some r.written)
   pub short : length (outcome_line number event o) ≤ longest_line
 
 -- the outcome is that of the rules at a buffer of 128 octets

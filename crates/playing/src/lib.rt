@@ -3,10 +3,10 @@
 
 mod records;
 
-ghost use Rattle.std.specs.Prelude.{◌≡◌, ◌≤◌, ◌<◌, length, get_or};
+ghost use Rattle.std.specs.Prelude.{◌≡◌, ◌≤◌, ◌<◌, length, get_or, IfSome};
 ghost use Rattle.board.specs.Soundness.{sound as sound_board};
 ghost use Rattle.playing.specs.Log.{stops_reading};
-ghost use Rattle.playing.specs.Playing.{PlaysRecord, front_length, pause_at_end, paused_at, Plays};
+ghost use Rattle.playing.specs.Playing.{PlaysRecord, front, longest_line, pause_at_end, Plays};
 
 use board::Board;
 use ect::step_tested;
@@ -53,7 +53,7 @@ fn kind_of(event: &[u8]) -> u8
     event[0]
 }
 
-// Has the component judge a record, and writes its line.
+// Has the component judge a record, and writes its line, for which there is room.
 fn play_record(
     board: Board,
     is_sound: bool,
@@ -61,7 +61,7 @@ fn play_record(
     event: &[u8],
     out: &mut [u8],
 ) -> PlayedRecord
-    requires { 0 < length event.now }
+    requires { (0 < length event.now) × (longest_line ≤ length out.old) }
     ensures { PlaysRecord is_sound board number event.now out.old out.new result }
 {
     let mut reply = [0u8; 128];
@@ -70,7 +70,7 @@ fn play_record(
     let number_returned = returned(answer);
     let count = written(answer);
     let kind = kind_of(event);
-    let n = log_text::record_line(number, kind, number_returned, &reply[..count], out);
+    let n = log_text::record_line(number, kind, number_returned, &reply[..count], out).unwrap();
     let after = stepped.board;
     PlayedRecord {
         board: after,
@@ -80,19 +80,20 @@ fn play_record(
 }
 
 // How many octets the record at the front of a piece takes: as many as its kind has, or all there are of one that is
-// cut at the log's end; 0 where the record goes on behind the piece.
-fn front_length(piece: &[u8], is_last: bool) -> usize
+// cut at the log's end; `None` where the record goes on behind the piece.
+fn front_length(piece: &[u8], is_last: bool) -> Option<usize>
     requires { 0 < length piece.now }
-    ensures { (result ≡ front_length is_last piece.now) × (result ≤ length piece.now) }
+    ensures is { result ≡ front is_last piece.now }
+    ensures within { IfSome result (λ n. n ≤ length piece.now) }
 {
     let whole = record_length(piece[0]);
     if whole <= piece.len() {
-        return whole;
+        return Some(whole);
     }
     if is_last {
-        return piece.len();
+        return Some(piece.len());
     }
-    0
+    None
 }
 
 // A record that is cut, and one of a kind that is not listed, stop the reading.
@@ -100,18 +101,6 @@ fn stops(returned: u8) -> bool
     ensures { result ≡ stops_reading returned }
 {
     (returned == 3) | (returned == 4)
-}
-
-fn paused(board: Board, number: u64, read: usize, written: usize, pause: Pause) -> Played
-    ensures { result ≡ paused_at board number read written pause }
-{
-    Played {
-        board,
-        number,
-        read,
-        written,
-        pause,
-    }
 }
 
 // Plays the records of a piece. A number that 64 bits do not hold is not given: the reading ends at the one before.
@@ -133,37 +122,52 @@ fn play_tested(
     requires { is_sound ≡ sound_board start }
     ensures { Plays start before piece.now is_last out.old out.new result }
 {
-    let mut board = start;
-    let mut number = before;
-    let mut read = 0;
-    let mut text = 0;
-    while read < piece.len() {
-        if out.len() - text < LONGEST_LINE {
-            return paused(board, number, read, text, Pause::FullOutput);
+    let mut so_far = Played {
+        board: start,
+        number: before,
+        read: 0,
+        written: 0,
+        pause: at_end(is_last),
+    };
+    while so_far.read < piece.len() {
+        if out.len() - so_far.written < LONGEST_LINE {
+            return Played {
+                pause: Pause::FullOutput,
+                ..so_far
+            };
         }
-        let taken = front_length(&piece[read..], is_last);
-        if taken == 0 {
-            return paused(board, number, read, text, Pause::MoreInput);
+        let Some(taken) = front_length(&piece[so_far.read..], is_last) else {
+            return Played {
+                pause: Pause::MoreInput,
+                ..so_far
+            };
+        };
+        if u64::MAX <= so_far.number {
+            return Played {
+                pause: Pause::End,
+                ..so_far
+            };
         }
-        if u64::MAX <= number {
-            return paused(board, number, read, text, Pause::End);
-        }
-        number += 1;
+        so_far.number += 1;
         let played = play_record(
-            board,
+            so_far.board,
             is_sound,
-            number,
-            &piece[read..read + taken],
-            &mut out[text..],
+            so_far.number,
+            &piece[so_far.read..so_far.read + taken],
+            &mut out[so_far.written..],
         );
-        board = played.board;
-        read += taken;
-        text += played.written;
+        so_far.board = played.board;
+        so_far.read += taken;
+        so_far.written += played.written;
+        // Nothing behind it is read.
         if stops(played.returned) {
-            return paused(board, number, read, text, Pause::End); // Nothing behind it is read.
+            return Played {
+                pause: Pause::End,
+                ..so_far
+            };
         }
     }
-    paused(board, number, read, text, at_end(is_last))
+    so_far
 }
 
 fn at_end(is_last: bool) -> Pause

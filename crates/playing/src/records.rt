@@ -2,23 +2,19 @@
 ghost use Rattle.std.specs.Prelude.{◌≡◌};
 ghost use Rattle.ect.specs.Contract.{answer_number, answer_count};
 
-use ect::StepAnswer;
-use events::refusal_number;
+use events::{Refusal, refusal_number};
 
-pub fn returned(answer: StepAnswer) -> u8
+pub fn returned(answer: Result<usize, Refusal>) -> u8
     ensures { result ≡ answer_number answer }
 {
     match answer {
-        StepAnswer::Accepted(_) => 0,
-        StepAnswer::Refused(refusal) => refusal_number(refusal),
+        Ok(_) => 0,
+        Err(refusal) => refusal_number(refusal),
     }
 }
 
-pub fn written(answer: StepAnswer) -> usize
+pub fn written(answer: Result<usize, Refusal>) -> usize
     ensures { result ≡ answer_count answer }
 {
-    match answer {
-        StepAnswer::Accepted(n) => n,
-        StepAnswer::Refused(_) => 0,
-    }
+    answer.unwrap_or(0)
 }

@@ -1,4 +1,5 @@
 -- Worked examples, computed: what components say as EctInform invokes. Assumes nothing.
+use Rattle.std.specs.Prelude.{None, Option, Some}
 use mathlib.Core.Path.{◌≡◌, refl}
 use mathlib.Core.List.{List, [], ◌∷◌}
 use Prim.Native.Nat.{ℕ}
@@ -6,10 +7,10 @@ use Rattle.elements.specs.Elements.{first_element, siblings, whole_elements}
 use Rattle.component.specs.Arguments.{behind_operation, identified_in, arguments_in}
 use Rattle.private_transfers.specs.declared.Indication.{Indication}
 use Rattle.private_transfers.specs.declared.Indication.TheVariants.{Alerting, Active}
-use Rattle.private_transfers.specs.declared.NumberForm.TheVariants.{NotSent, Restricted, Given}
 use Rattle.private_transfers.specs.declared.RedirectionNumber.{RedirectionNumber}
+use Rattle.private_transfers.specs.declared.RedirectionNumber.TheVariants.{NotSent, Restricted, Given}
 use Rattle.private_transfers.specs.declared.EctInform.{EctInform}
-use Rattle.private_transfers.specs.EctInform.{without_digits, no_inform, inform_in}
+use Rattle.private_transfers.specs.EctInform.{inform_in}
 
 -- an invoke of this length, with identifier 5 and the object identifier that ends in `last`
 invoke : ℕ → ℕ → List ℕ → List ℕ
@@ -19,15 +20,15 @@ invoke n last argument = 0xA1 ∷ n ∷ 0x02 ∷ 0x01 ∷ 0x05 ∷ 0x06 ∷ 0x06
 fifteen : List ℕ → List ℕ
 fifteen s = 0x31 ∷ 0x32 ∷ 0x33 ∷ 0x34 ∷ 0x35 ∷ 0x36 ∷ 0x37 ∷ 0x38 ∷ 0x39 ∷ 0x30 ∷ 0x31 ∷ 0x32 ∷ 0x33 ∷ 0x34 ∷ 0x35 ∷ s
 
-abbrev says : Indication → RedirectionNumber → EctInform
-says i n = record { indication = i; number = n }
+abbrev says : Indication → RedirectionNumber → Option EctInform
+says i n = Some (record { indication = i; number = n })
 
 -- the digits 21
 abbrev twenty_one : RedirectionNumber
-twenty_one = record { form = Given; count = 2; digits = 50 ∷ 49 ∷ 0 ∷ 0 ∷ 0 ∷ 0 ∷ 0 ∷ 0 ∷ 0 ∷ 0 ∷ 0 ∷ 0 ∷ 0 ∷ 0 ∷ 0 ∷ [] }
+twenty_one = Given 2 (50 ∷ 49 ∷ 0 ∷ 0 ∷ 0 ∷ 0 ∷ 0 ∷ 0 ∷ 0 ∷ 0 ∷ 0 ∷ 0 ∷ 0 ∷ 0 ∷ 0 ∷ [])
 
 abbrev fifteen_digits : RedirectionNumber
-fifteen_digits = record { form = Given; count = 15; digits = 49 ∷ 50 ∷ 51 ∷ 52 ∷ 53 ∷ 54 ∷ 55 ∷ 56 ∷ 57 ∷ 48 ∷ 49 ∷ 50 ∷ 51 ∷ 52 ∷ 53 ∷ [] }
+fifteen_digits = Given 15 (49 ∷ 50 ∷ 51 ∷ 52 ∷ 53 ∷ 54 ∷ 55 ∷ 56 ∷ 57 ∷ 48 ∷ 49 ∷ 50 ∷ 51 ∷ 52 ∷ 53 ∷ [])
 
 -- ---- accepted
 active_with_digits : inform_in (invoke 0x16 0x05 (0x30 ∷ 0x09 ∷ 0x0A ∷ 0x01 ∷ 0x01 ∷ 0xA0 ∷ 0x04 ∷ 0x80 ∷ 0x02 ∷ 0x32 ∷ 0x31 ∷ [])) ≡ says Active twenty_one
@@ -38,11 +39,11 @@ alerting_with_digits : inform_in (invoke 0x16 0x05 (0x30 ∷ 0x09 ∷ 0x0A ∷ 0
 unfolding invoke inform_in arguments_in identified_in behind_operation first_element whole_elements siblings
 alerting_with_digits = refl
 
-restricted_number : inform_in (invoke 0x12 0x05 (0x30 ∷ 0x05 ∷ 0x0A ∷ 0x01 ∷ 0x01 ∷ 0x81 ∷ 0x00 ∷ [])) ≡ says Active (without_digits Restricted)
+restricted_number : inform_in (invoke 0x12 0x05 (0x30 ∷ 0x05 ∷ 0x0A ∷ 0x01 ∷ 0x01 ∷ 0x81 ∷ 0x00 ∷ [])) ≡ says Active Restricted
 unfolding invoke inform_in arguments_in identified_in behind_operation first_element whole_elements siblings
 restricted_number = refl
 
-no_number : inform_in (invoke 0x10 0x05 (0x30 ∷ 0x03 ∷ 0x0A ∷ 0x01 ∷ 0x01 ∷ [])) ≡ says Active (without_digits NotSent)
+no_number : inform_in (invoke 0x10 0x05 (0x30 ∷ 0x03 ∷ 0x0A ∷ 0x01 ∷ 0x01 ∷ [])) ≡ says Active NotSent
 unfolding invoke inform_in arguments_in identified_in behind_operation first_element whole_elements siblings
 no_number = refl
 
@@ -51,51 +52,51 @@ unfolding fifteen invoke inform_in arguments_in identified_in behind_operation f
 digits_15 = refl
 
 -- ---- not accepted
-digits_16 : inform_in (invoke 0x24 0x05 (0x30 ∷ 0x17 ∷ 0x0A ∷ 0x01 ∷ 0x01 ∷ 0xA0 ∷ 0x12 ∷ 0x80 ∷ 0x10 ∷ fifteen (0x36 ∷ []))) ≡ no_inform
+digits_16 : inform_in (invoke 0x24 0x05 (0x30 ∷ 0x17 ∷ 0x0A ∷ 0x01 ∷ 0x01 ∷ 0xA0 ∷ 0x12 ∷ 0x80 ∷ 0x10 ∷ fifteen (0x36 ∷ []))) ≡ None
 unfolding fifteen invoke inform_in arguments_in identified_in behind_operation first_element whole_elements siblings
 digits_16 = refl
 
-no_digits : inform_in (invoke 0x14 0x05 (0x30 ∷ 0x07 ∷ 0x0A ∷ 0x01 ∷ 0x01 ∷ 0xA0 ∷ 0x02 ∷ 0x80 ∷ 0x00 ∷ [])) ≡ no_inform
+no_digits : inform_in (invoke 0x14 0x05 (0x30 ∷ 0x07 ∷ 0x0A ∷ 0x01 ∷ 0x01 ∷ 0xA0 ∷ 0x02 ∷ 0x80 ∷ 0x00 ∷ [])) ≡ None
 unfolding invoke inform_in arguments_in identified_in behind_operation first_element whole_elements siblings
 no_digits = refl
 
-letter : inform_in (invoke 0x16 0x05 (0x30 ∷ 0x09 ∷ 0x0A ∷ 0x01 ∷ 0x01 ∷ 0xA0 ∷ 0x04 ∷ 0x80 ∷ 0x02 ∷ 0x32 ∷ 0x41 ∷ [])) ≡ no_inform
+letter : inform_in (invoke 0x16 0x05 (0x30 ∷ 0x09 ∷ 0x0A ∷ 0x01 ∷ 0x01 ∷ 0xA0 ∷ 0x04 ∷ 0x80 ∷ 0x02 ∷ 0x32 ∷ 0x41 ∷ [])) ≡ None
 unfolding invoke inform_in arguments_in identified_in behind_operation first_element whole_elements siblings
 letter = refl
 
-digits_without_a0 : inform_in (invoke 0x14 0x05 (0x30 ∷ 0x07 ∷ 0x0A ∷ 0x01 ∷ 0x01 ∷ 0x80 ∷ 0x02 ∷ 0x32 ∷ 0x31 ∷ [])) ≡ no_inform
+digits_without_a0 : inform_in (invoke 0x14 0x05 (0x30 ∷ 0x07 ∷ 0x0A ∷ 0x01 ∷ 0x01 ∷ 0x80 ∷ 0x02 ∷ 0x32 ∷ 0x31 ∷ [])) ≡ None
 unfolding invoke inform_in arguments_in identified_in behind_operation first_element whole_elements siblings
 digits_without_a0 = refl
 
-restricted_with_contents : inform_in (invoke 0x13 0x05 (0x30 ∷ 0x06 ∷ 0x0A ∷ 0x01 ∷ 0x01 ∷ 0x81 ∷ 0x01 ∷ 0x32 ∷ [])) ≡ no_inform
+restricted_with_contents : inform_in (invoke 0x13 0x05 (0x30 ∷ 0x06 ∷ 0x0A ∷ 0x01 ∷ 0x01 ∷ 0x81 ∷ 0x01 ∷ 0x32 ∷ [])) ≡ None
 unfolding invoke inform_in arguments_in identified_in behind_operation first_element whole_elements siblings
 restricted_with_contents = refl
 
-element_behind_argument : inform_in (invoke 0x18 0x05 (0x30 ∷ 0x09 ∷ 0x0A ∷ 0x01 ∷ 0x01 ∷ 0xA0 ∷ 0x04 ∷ 0x80 ∷ 0x02 ∷ 0x32 ∷ 0x31 ∷ 0x05 ∷ 0x00 ∷ [])) ≡ no_inform
+element_behind_argument : inform_in (invoke 0x18 0x05 (0x30 ∷ 0x09 ∷ 0x0A ∷ 0x01 ∷ 0x01 ∷ 0xA0 ∷ 0x04 ∷ 0x80 ∷ 0x02 ∷ 0x32 ∷ 0x31 ∷ 0x05 ∷ 0x00 ∷ [])) ≡ None
 unfolding invoke inform_in arguments_in identified_in behind_operation first_element whole_elements siblings
 element_behind_argument = refl
 
-element_behind_number : inform_in (invoke 0x18 0x05 (0x30 ∷ 0x0B ∷ 0x0A ∷ 0x01 ∷ 0x01 ∷ 0xA0 ∷ 0x04 ∷ 0x80 ∷ 0x02 ∷ 0x32 ∷ 0x31 ∷ 0x05 ∷ 0x00 ∷ [])) ≡ no_inform
+element_behind_number : inform_in (invoke 0x18 0x05 (0x30 ∷ 0x0B ∷ 0x0A ∷ 0x01 ∷ 0x01 ∷ 0xA0 ∷ 0x04 ∷ 0x80 ∷ 0x02 ∷ 0x32 ∷ 0x31 ∷ 0x05 ∷ 0x00 ∷ [])) ≡ None
 unfolding invoke inform_in arguments_in identified_in behind_operation first_element whole_elements siblings
 element_behind_number = refl
 
-element_behind_digits : inform_in (invoke 0x19 0x05 (0x30 ∷ 0x0C ∷ 0x0A ∷ 0x01 ∷ 0x01 ∷ 0xA0 ∷ 0x07 ∷ 0x80 ∷ 0x02 ∷ 0x32 ∷ 0x31 ∷ 0x80 ∷ 0x01 ∷ 0x32 ∷ [])) ≡ no_inform
+element_behind_digits : inform_in (invoke 0x19 0x05 (0x30 ∷ 0x0C ∷ 0x0A ∷ 0x01 ∷ 0x01 ∷ 0xA0 ∷ 0x07 ∷ 0x80 ∷ 0x02 ∷ 0x32 ∷ 0x31 ∷ 0x80 ∷ 0x01 ∷ 0x32 ∷ [])) ≡ None
 unfolding invoke inform_in arguments_in identified_in behind_operation first_element whole_elements siblings
 element_behind_digits = refl
 
-indication_02 : inform_in (invoke 0x16 0x05 (0x30 ∷ 0x09 ∷ 0x0A ∷ 0x01 ∷ 0x02 ∷ 0xA0 ∷ 0x04 ∷ 0x80 ∷ 0x02 ∷ 0x32 ∷ 0x31 ∷ [])) ≡ no_inform
+indication_02 : inform_in (invoke 0x16 0x05 (0x30 ∷ 0x09 ∷ 0x0A ∷ 0x01 ∷ 0x02 ∷ 0xA0 ∷ 0x04 ∷ 0x80 ∷ 0x02 ∷ 0x32 ∷ 0x31 ∷ [])) ≡ None
 unfolding invoke inform_in arguments_in identified_in behind_operation first_element whole_elements siblings
 indication_02 = refl
 
-indication_of_two_octets : inform_in (invoke 0x17 0x05 (0x30 ∷ 0x0A ∷ 0x0A ∷ 0x02 ∷ 0x00 ∷ 0x01 ∷ 0xA0 ∷ 0x04 ∷ 0x80 ∷ 0x02 ∷ 0x32 ∷ 0x31 ∷ [])) ≡ no_inform
+indication_of_two_octets : inform_in (invoke 0x17 0x05 (0x30 ∷ 0x0A ∷ 0x0A ∷ 0x02 ∷ 0x00 ∷ 0x01 ∷ 0xA0 ∷ 0x04 ∷ 0x80 ∷ 0x02 ∷ 0x32 ∷ 0x31 ∷ [])) ≡ None
 unfolding invoke inform_in arguments_in identified_in behind_operation first_element whole_elements siblings
 indication_of_two_octets = refl
 
 -- the identifier 5 in two octets
-padded_identifier : inform_in (0xA1 ∷ 0x17 ∷ 0x02 ∷ 0x02 ∷ 0x00 ∷ 0x05 ∷ 0x06 ∷ 0x06 ∷ 0x04 ∷ 0x00 ∷ 0x82 ∷ 0x71 ∷ 0x01 ∷ 0x05 ∷ 0x30 ∷ 0x09 ∷ 0x0A ∷ 0x01 ∷ 0x01 ∷ 0xA0 ∷ 0x04 ∷ 0x80 ∷ 0x02 ∷ 0x32 ∷ 0x31 ∷ []) ≡ no_inform
+padded_identifier : inform_in (0xA1 ∷ 0x17 ∷ 0x02 ∷ 0x02 ∷ 0x00 ∷ 0x05 ∷ 0x06 ∷ 0x06 ∷ 0x04 ∷ 0x00 ∷ 0x82 ∷ 0x71 ∷ 0x01 ∷ 0x05 ∷ 0x30 ∷ 0x09 ∷ 0x0A ∷ 0x01 ∷ 0x01 ∷ 0xA0 ∷ 0x04 ∷ 0x80 ∷ 0x02 ∷ 0x32 ∷ 0x31 ∷ []) ≡ None
 unfolding inform_in arguments_in identified_in behind_operation first_element whole_elements siblings
 padded_identifier = refl
 
-other_operation : inform_in (invoke 0x16 0x04 (0x30 ∷ 0x09 ∷ 0x0A ∷ 0x01 ∷ 0x01 ∷ 0xA0 ∷ 0x04 ∷ 0x80 ∷ 0x02 ∷ 0x32 ∷ 0x31 ∷ [])) ≡ no_inform
+other_operation : inform_in (invoke 0x16 0x04 (0x30 ∷ 0x09 ∷ 0x0A ∷ 0x01 ∷ 0x01 ∷ 0xA0 ∷ 0x04 ∷ 0x80 ∷ 0x02 ∷ 0x32 ∷ 0x31 ∷ [])) ≡ None
 unfolding invoke inform_in arguments_in identified_in behind_operation first_element whole_elements siblings
 other_operation = refl

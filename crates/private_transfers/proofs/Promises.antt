@@ -2,6 +2,7 @@
 -- the octets as an EctInform invoke.
 use Prim.{tt}
 use Prim.Native.Nat.{ℕ}
+use Rattle.std.specs.Prelude.{Option}
 use mathlib.Core.Path.{◌≡◌}
 use mathlib.Core.List.{List}
 use contract.Lifetimes.{Lfts}
@@ -11,10 +12,10 @@ use Rattle.private_transfers.specs.EctInform.{inform_in}
 use Rattle.private_transfers.proofs.read_inform.Reads as read-contract
 
 -- `read_inform` was lent octets, and returned r
-pub record ReadMet (s : List ℕ) (r : EctInform) : Type 0 where
+pub record ReadMet (s : List ℕ) (r : Option EctInform) : Type 0 where
   pub lifetimes : Lfts 1
   pub component_at : ℕ × ℕ
   pub met : read-contract.Post lifetimes (lent_shared component_at s, tt) r (lent_shared component_at s, tt)
 
-pub read_promise : (s : List ℕ) (r : EctInform) → ReadMet s r → r ≡ inform_in s
+pub read_promise : (s : List ℕ) (r : Option EctInform) → ReadMet s r → r ≡ inform_in s
 read_promise s r h = h.met

@@ -1,3 +1,2 @@
 -- Transfers made inside a private exchange.
 pub mod EctInform
-pub mod Code

@@ -1,30 +1,37 @@
 // The reply records of one event: built by value, so that a refusal has written nothing.
 #![tactic(auto)]
 
-ghost use Rattle.std.specs.Prelude.{◌≡◌, [], ◌∷◌, ◌+◌, ◌≤◌, length};
-ghost use Rattle.octets.specs.Numbers.{four};
-ghost use Rattle.rules.specs.Replies.{Reply, Tell, Drop, Gone, PassOn, mark_only, number_as_told, told};
+ghost use Rattle.std.specs.Prelude.{◌≡◌, [], ◌∷◌, ◌++◌, ◌+◌, ◌≤◌, length};
+ghost use Rattle.rules.specs.Replies.{Reply, Tell, Drop, Gone, PassOn, record_octets, mark_only, number_as_told, told};
 ghost use Rattle.rules.specs.Replies.{facility, transferred_active};
-ghost use Rattle.replies.specs.Code.Writing.{AppendedTo, Adds, rendered, transfer_records};
+ghost use Rattle.replies.specs.Code.Writing.{rendered, transfer_records, message_number, description_number, request_number};
 
+use Description::{TransferredActive, TransferredAlerting};
+use Message::{Facility, Notify};
+use arrayvec::ArrayVec;
 use board::PartyNumber;
 use component::{Answer, encode};
 use octets::{CallReference, IntegerOctets};
 use rules::TellNumber;
 
-const FACILITY: u8 = 0;
-
-const NOTIFY: u8 = 1;
-
-const TRANSFERRED_ALERTING: u8 = 0xe9;
-
-const TRANSFERRED_ACTIVE: u8 = 0xea;
-
-// The octets written so far: the first `len`.
+// The message in which a far party is told.
 #[derive(Clone, Copy)]
+enum Message {
+    Facility = 0,
+    Notify = 1,
+}
+
+// What it is told of the call.
+#[derive(Clone, Copy)]
+enum Description {
+    TransferredAlerting = 0xe9,
+    TransferredActive = 0xea,
+}
+
+// The octets of an event's replies.
+#[derive(Drop)]
 pub struct Out {
-    pub octets: [u8; 128],
-    pub len: usize,
+    pub octets: ArrayVec<u8, 128>,
 }
 
 // A far party of a transfer: its call with the served user, its leg, whether that alerts, and its number.
@@ -71,117 +78,103 @@ pub fn number_as_told(number: PartyNumber) -> TellNumber
     }
 }
 
-// High octet first.
-fn four_octets(n: u32) -> [u8; 4]
-    ensures { result ≡ four n }
+// A record of its head and of octets that come with their zeros.
+fn joined<const N: usize>(head: &[u8], rest: &[u8]) -> [u8; N]
+    requires { length head.now + length rest.now ≡ N }
+    ensures { result ≡ head.now ++ rest.now }
 {
-    let high = n / 65536;
-    let low = n % 65536;
-    [
-        (high / 256) as u8,
-        (high % 256) as u8,
-        (low / 256) as u8,
-        (low % 256) as u8,
-    ]
+    let mut octets = [0u8; N];
+    let all = &mut octets[..];
+    all[..head.len()].copy_from_slice(head);
+    all[head.len()..].copy_from_slice(rest);
+    octets
+}
+
+fn reply_record(reference: CallReference, answer: Answer) -> [u8; 36]
+    ensures { result ≡ record_octets (Reply reference.0 answer) }
+{
+    let encoded = encode(answer);
+    let [high, low] = reference.0.to_be_bytes();
+    joined(&[0x81, high, low, encoded.count], &encoded.octets)
+}
+
+fn drop_record(reference: CallReference) -> [u8; 3]
+    ensures { result ≡ record_octets (Drop reference.0) }
+{
+    let [high, low] = reference.0.to_be_bytes();
+    [0x83, high, low]
+}
+
+fn gone_record(leg: u32) -> [u8; 5]
+    ensures { result ≡ record_octets (Gone leg) }
+{
+    let [a, b, c, d] = leg.to_be_bytes();
+    [0x84, a, b, c, d]
+}
+
+fn tell_record(
+    leg: u32,
+    message: Message,
+    description: Description,
+    number: TellNumber,
+    request: bool,
+) -> [u8; 25]
+    ensures { result ≡ record_octets (Tell leg (message_number message) (description_number description) number (request_number request)) }
+{
+    let [a, b, c, d] = leg.to_be_bytes();
+    let head = [
+        0x82,
+        a,
+        b,
+        c,
+        d,
+        message as u8,
+        description as u8,
+        number.mark,
+        request as u8,
+        number.count,
+    ];
+    joined(&head, &number.digits)
+}
+
+fn pass_on_record(leg: u32, count: u8, component: [u8; 64]) -> [u8; 70]
+    ensures { result ≡ record_octets (PassOn leg count component) }
+{
+    let [a, b, c, d] = leg.to_be_bytes();
+    joined(&[0x85, a, b, c, d, count], &component)
+}
+
+// What a transfer tells the party at a leg: `other` is whether the other party alerts, the number is the other's.
+fn told_record(leg: u32, alerts: bool, other: bool, number: TellNumber) -> [u8; 25]
+    ensures { result ≡ record_octets (told leg alerts other number) }
+{
+    if alerts {
+        return tell_record(leg, Notify, TransferredActive, number, false);
+    }
+    if other {
+        return tell_record(leg, Facility, TransferredAlerting, unknown(), true);
+    }
+    tell_record(leg, Facility, TransferredActive, number, true)
 }
 
 impl Out {
-    // The octets of the part after those written.
-    fn push_part(self, part: &[u8]) -> Out
-        requires { self.len + length part.now ≤ 128 }
-        ensures { AppendedTo self result part.now }
+    fn new() -> Out
+        ensures { result.octets.items ≡ [] }
     {
-        let at = self.len;
+        Out {
+            octets: ArrayVec::new(),
+        }
+    }
+
+    // With one record more.
+    fn with(self, octets: &[u8]) -> Out
+        requires { length self.octets.items + length octets.now ≤ 128 }
+        ensures items { result.octets.items ≡ self.octets.items ++ octets.now }
+        ensures len { length result.octets.items ≡ length self.octets.items + length octets.now }
+    {
         let mut out = self;
-        let mut i = 0;
-        while i < part.len() {
-            out.octets[at + i] = part[i];
-            i += 1;
-        }
-        out.len = at + i;
+        out.octets.try_extend_from_slice(octets).unwrap();
         out
-    }
-
-    // The component comes with its zeros.
-    fn push_reply(self, reference: CallReference, answer: Answer) -> Out
-        requires { self.len + 36 ≤ 128 }
-        ensures { Adds self result (Reply reference.0 answer ∷ []) 36 }
-    {
-        let encoded = encode(answer);
-        let octets = encoded.octets;
-        let r = reference.0;
-        let head = [0x81, (r / 256) as u8, (r % 256) as u8, encoded.count];
-        self.push_part(&head).push_part(&octets)
-    }
-
-    fn push_drop(self, reference: CallReference) -> Out
-        requires { self.len + 3 ≤ 128 }
-        ensures { Adds self result (Drop reference.0 ∷ []) 3 }
-    {
-        let r = reference.0;
-        let record = [0x83, (r / 256) as u8, (r % 256) as u8];
-        self.push_part(&record)
-    }
-
-    fn push_gone(self, leg: u32) -> Out
-        requires { self.len + 5 ≤ 128 }
-        ensures { Adds self result (Gone leg ∷ []) 5 }
-    {
-        let l = four_octets(leg);
-        let record = [0x84, l[0], l[1], l[2], l[3]];
-        self.push_part(&record)
-    }
-
-    fn push_tell(
-        self,
-        leg: u32,
-        message: u8,
-        description: u8,
-        number: TellNumber,
-        request: u8,
-    ) -> Out
-        requires { self.len + 25 ≤ 128 }
-        ensures { Adds self result (Tell leg message description number request ∷ []) 25 }
-    {
-        let digits = number.digits;
-        let l = four_octets(leg);
-        let head = [
-            0x82,
-            l[0],
-            l[1],
-            l[2],
-            l[3],
-            message,
-            description,
-            number.mark,
-            request,
-            number.count,
-        ];
-        self.push_part(&head).push_part(&digits)
-    }
-
-    // The component comes with its zeros.
-    fn push_pass_on(self, leg: u32, count: u8, component: [u8; 64]) -> Out
-        requires { self.len + 70 ≤ 128 }
-        ensures { Adds self result (PassOn leg count component ∷ []) 70 }
-    {
-        let l = four_octets(leg);
-        let head = [0x85, l[0], l[1], l[2], l[3], count];
-        self.push_part(&head).push_part(&component)
-    }
-
-    // What a transfer tells the party at a leg: `other` is whether the other party alerts, the number is the other's.
-    fn push_told(self, leg: u32, alerts: bool, other: bool, number: TellNumber) -> Out
-        requires { self.len + 25 ≤ 128 }
-        ensures { Adds self result (told leg alerts other number ∷ []) 25 }
-    {
-        if alerts {
-            return self.push_tell(leg, NOTIFY, TRANSFERRED_ACTIVE, number, 0);
-        }
-        if other {
-            return self.push_tell(leg, FACILITY, TRANSFERRED_ALERTING, unknown(), 1);
-        }
-        self.push_tell(leg, FACILITY, TRANSFERRED_ACTIVE, number, 1)
     }
 }
 
@@ -189,45 +182,42 @@ impl Out {
 pub fn nothing() -> Out
     ensures { result ≡ rendered [] }
 {
-    Out {
-        octets: [0u8; 128],
-        len: 0,
-    }
+    Out::new()
 }
 
 // The answer to a component.
 pub fn reply(reference: CallReference, answer: Answer) -> Out
     ensures { result ≡ rendered (Reply reference.0 answer ∷ []) }
 {
-    nothing().push_reply(reference, answer)
+    Out::new().with(&reply_record(reference, answer))
 }
 
 // The release of a served call.
 pub fn drop_notice(reference: CallReference) -> Out
     ensures { result ≡ rendered (Drop reference.0 ∷ []) }
 {
-    nothing().push_drop(reference)
+    Out::new().with(&drop_record(reference))
 }
 
 // The release of a joined leg, told to its partner.
 pub fn gone(leg: u32) -> Out
     ensures { result ≡ rendered (Gone leg ∷ []) }
 {
-    nothing().push_gone(leg)
+    Out::new().with(&gone_record(leg))
 }
 
 // What an answer tells the partner.
 pub fn answer_told(partner: u32, number: TellNumber) -> Out
     ensures { result ≡ rendered (Tell partner facility transferred_active number 0 ∷ []) }
 {
-    nothing().push_tell(partner, FACILITY, TRANSFERRED_ACTIVE, number, 0)
+    Out::new().with(&tell_record(partner, Facility, TransferredActive, number, false))
 }
 
 // A component of a joined leg, passed on to its partner.
 pub fn pass_on(partner: u32, count: u8, component: [u8; 64]) -> Out
     ensures { result ≡ rendered (PassOn partner count component ∷ []) }
 {
-    nothing().push_pass_on(partner, count, component)
+    Out::new().with(&pass_on_record(partner, count, component))
 }
 
 // The five records of a transfer, the Reply on the reference of the event.
@@ -239,10 +229,10 @@ pub fn transfer(
 ) -> Out
     ensures { result ≡ rendered (transfer_records reference identifier named other) }
 {
-    nothing()
-        .push_reply(reference, Answer::Result(identifier))
-        .push_drop(named.reference)
-        .push_drop(other.reference)
-        .push_told(named.leg, named.alerts, other.alerts, other.number)
-        .push_told(other.leg, other.alerts, named.alerts, named.number)
+    Out::new()
+        .with(&reply_record(reference, Answer::Result(identifier)))
+        .with(&drop_record(named.reference))
+        .with(&drop_record(other.reference))
+        .with(&told_record(named.leg, named.alerts, other.alerts, other.number))
+        .with(&told_record(other.leg, other.alerts, named.alerts, named.number))
 }

@@ -1,122 +1,76 @@
--- Two rows compared by their numbers.
-use Prim.Native.Nat.{ℕ, ◌+◌, ◌-◌, ◌*◌, ◌≤◌, ◌<◌}
-use native.Mathlib.Omega.{arith}
-use mathlib.Core.Path.{◌≡◌, refl, sym, ap}
-use mathlib.Core.Bool.{Bool, true, false, ◌&&◌, ◌||◌, not, and-false}
-use mathlib.Core.Option.{none}
-use lib.Dec.{eqb}
-use lib.IntN.{ℤ, pos, negsuc}
-use lib.Signed.{mag}
-use borrow.Author.Tests.{ne_eqb}
-use Rattle.octets.specs.Tests.{none_or, has_both, bit}
-use Rattle.octets.specs.Numbers.{bits, same_integer}
-use Rattle.octets.proofs.Lists.{same_tests, eqb_eq, eqb_of}
-use Rattle.board.specs.declared.OptionalLinkId.{OptionalLinkId}
-use Rattle.board.specs.declared.OptionalLinkId.TheVariants.{Absent, Present}
+-- Two rows compared by what their entries are compared by.
+use Rattle.std.specs.Prelude.{ℕ, None, Option, Some, Bool, false, ◌&&◌, ◌||◌, not, eqb, ℤ}
+use Rattle.std.specs.Ordering.{int_eq}
+use Rattle.std.proofs.lemmas.Bool.Decides.{Decides-int_eq}
+use mathlib.Core.Path.{◌≡◌, refl, sym, ap, ap₂, ◌∙◌}
+use mathlib.Core.Bool.{and-false, or_assoc}
+use Rattle.octets.specs.Numbers.{same_integer}
+use Rattle.octets.specs.Tests.{none_or, has, has_both}
+use Rattle.octets.proofs.Lists.{same_tests}
+use Rattle.octets.proofs.SameInteger.{same_integer_eq, same_integer_self}
 use Rattle.board.specs.declared.Standing.{Standing}
 use Rattle.board.specs.declared.Standing.TheVariants.{Empty, Served, Joined}
 use Rattle.board.specs.declared.Entry.{Entry}
 use Rattle.board.specs.declared.Row.{Row}
-use Rattle.board.specs.Entries.{entry_of, occupied, link_id_in}
-use Rattle.board.specs.Soundness.{answers_to, same_link_ids_in}
-use Rattle.board.specs.Code.RowTests.{clashing, clash, partnered_by, paired, taken_row}
-use Rattle.row_soundness.specs.Code.RowKeys.{link_number, call_key, key_of, both_same, joined_entry}
+use Rattle.board.specs.Entries.{entry_of, row_entry}
+use Rattle.board.specs.Soundness.{same_numbers, same_link_ids_in}
+use Rattle.board.specs.Code.RowTests.{clashing, clash, partnered_by, paired}
+use Rattle.octets.specs.Tests.{bind_option}
+use Rattle.row_soundness.specs.declared.keys.JoinedLeg.{JoinedLeg}
+use Rattle.row_soundness.specs.Code.RowKeys.{leg_in, reference_in, link_in, joined_in, in_row, answers_joined}
 
--- ---- the number of a LinkId, from its bits
+-- ---- what is there in both, and the same
 
-pub number_even : (z : ℤ) (n : ℕ) → mag z < 32768 → n ≡ bits z → n < 32768 → n * 2 ≡ link_number z
-number_even (pos m) n f e h = omega arith
-number_even (negsuc m) n f e h = absurd (omega arith)
+pub both_numbers : (o p : Option ℕ) → has_both eqb o p ≡ same_numbers o p
+both_numbers None p = refl
+both_numbers (Some m) None = refl
+both_numbers (Some m) (Some n) = refl
 
-pub number_odd : (z : ℤ) (n : ℕ) → mag z < 32768 → n ≡ bits z → 32768 ≤ n → (65535 - n) * 2 + 1 ≡ link_number z
-number_odd (pos m) n f e h = absurd (omega arith)
-number_odd (negsuc m) n f e h = omega arith
+int_eq_same : (y z : ℤ) → int_eq y z ≡ same_integer y z
+int_eq_same y z =
+    same_tests (λ t. ap (same_integer y) (sym ((Decides-int_eq y z).0 t)) ∙ same_integer_self y) (λ t. (Decides-int_eq y z).1 (same_integer_eq y z t))
 
--- ---- two LinkIds by their numbers
+pub both_links : (o p : Option ℤ) → has_both int_eq o p ≡ same_link_ids_in o p
+both_links None p = refl
+both_links (Some y) None = refl
+both_links (Some y) (Some z) = int_eq_same y z
 
-pub same_number : (y z : ℤ) → same_integer y z ≡ eqb (link_number y) (link_number z)
-same_number (pos m) (pos n) = same_tests (λ t. eqb_of (m * 2) (n * 2) (ap (λ (k : ℕ). k * 2) (eqb_eq m n t))) (λ t. let e = eqb_eq (m * 2) (n * 2) t in eqb_of m n (omega arith))
-same_number (pos m) (negsuc n) = sym (ne_eqb (m * 2) (n * 2 + 1) (λ e. omega arith))
-same_number (negsuc m) (pos n) = sym (ne_eqb (m * 2 + 1) (n * 2) (λ e. omega arith))
-same_number (negsuc m) (negsuc n) = same_tests (λ t. eqb_of (m * 2 + 1) (n * 2 + 1) (ap (λ (k : ℕ). k * 2 + 1) (eqb_eq m n t))) (λ t. let e = eqb_eq (m * 2 + 1) (n * 2 + 1) t in eqb_of m n (omega arith))
+-- ---- two rows that clash
 
--- ---- two rows
+abbrev same_in : {A : Type 0} → (A → A → Bool) → (Entry → Option A) → Option Entry → Option Entry → Bool
+same_in t f o p = has_both t (bind_option f o) (bind_option f p)
 
-abbrev same_reference : Standing → Standing → Bool
-same_reference s t = both_same (key_of s).served (key_of s).reference (key_of t).served (key_of t).reference
+none_right : {A : Type 0} (t : A → A → Bool) (o : Option A) → has_both t o None ≡ false
+none_right t None = refl
+none_right t (Some x) = refl
 
-abbrev same_link : Standing → Standing → Bool
-same_link s t = both_same (key_of s).linked (key_of s).link (key_of t).linked (key_of t).link
-
-clash_at : (m n : ℕ) (s t : Standing) →
-    has_both clashing (entry_of m s) (entry_of n t) ≡ (((occupied s && occupied t) && eqb m n) || (same_reference s t || same_link s t))
-unfolding key_of
-clash_at m n Empty t = refl
-clash_at m n (Served c) Empty = go c.reference.0 c.link
-  where
-    go : (r : ℕ) (k : OptionalLinkId) →
-        false ≡ (both_same (call_key r k).served (call_key r k).reference 0 0 || both_same (call_key r k).linked (call_key r k).link 0 0)
-    go r Absent = refl
-    go r (Present z) = refl
-clash_at m n (Served c) (Served d) = go c.reference.0 c.link d.reference.0 d.link
-  where
-    go : (r : ℕ) (k : OptionalLinkId) (q : ℕ) (l : OptionalLinkId) →
-        (eqb m n || (eqb r q || same_link_ids_in (link_id_in k) (link_id_in l)))
-        ≡ (eqb m n
-        || (both_same (call_key r k).served (call_key r k).reference (call_key q l).served (call_key q l).reference
-        || both_same (call_key r k).linked (call_key r k).link (call_key q l).linked (call_key q l).link))
-    go r Absent q Absent = refl
-    go r Absent q (Present z) = refl
-    go r (Present y) q Absent = refl
-    go r (Present y) q (Present z) = ap (λ (b : Bool). eqb m n || (eqb r q || b)) (same_number y.0 z.0)
-clash_at m n (Served c) (Joined p a) = go c.reference.0 c.link
-  where
-    go : (r : ℕ) (k : OptionalLinkId) →
-        (eqb m n || (false || same_link_ids_in (link_id_in k) none))
-        ≡ (eqb m n || (both_same (call_key r k).served (call_key r k).reference 0 0 || both_same (call_key r k).linked (call_key r k).link 0 0))
-    go r Absent = refl
-    go r (Present z) = refl
-clash_at m n (Joined p a) Empty = refl
-clash_at m n (Joined p a) (Served d) = refl
-clash_at m n (Joined p a) (Joined q b) = refl
+clash_of : (o p : Option Entry) → (same_in eqb leg_in o p || same_in eqb reference_in o p || same_in int_eq link_in o p) ≡ has_both clashing o p
+clash_of None p = refl
+clash_of (Some e) None = rw (none_right eqb (reference_in e), none_right int_eq (link_in e))
+clash_of (Some e) (Some f) =
+    or_assoc (eqb e.leg f.leg) _ _
+    ∙ ap₂ (λ (b c : Bool). eqb e.leg f.leg || (b || c)) (both_numbers (reference_in e) (reference_in f)) (both_links (link_in e) (link_in f))
 
 pub clash_by_keys : (a b : Row) →
-    clash a b ≡ (((taken_row a && taken_row b) && eqb a.leg b.leg) || (same_reference a.standing b.standing || same_link a.standing b.standing))
+    (has_both eqb (in_row leg_in a) (in_row leg_in b) || has_both eqb (in_row reference_in a) (in_row reference_in b) || has_both int_eq (in_row link_in a) (in_row link_in b)) ≡ clash a b
 unfolding clash
-clash_by_keys a b = clash_at a.leg b.leg a.standing b.standing
+clash_by_keys a b = clash_of (row_entry a) (row_entry b)
 
 -- ---- partners
 
-pub bit_one : (b : Bool) → eqb (bit b) 1 ≡ b
-bit_one true = refl
-bit_one false = refl
-
-abbrev answers_key : ℕ → Standing → ℕ → Standing → Bool
-answers_key m s n t =
-    answers_to m (key_of s).partner (eqb (key_of s).alerting 1) (joined_entry n (key_of t).partner (key_of t).alerting)
+-- a joined leg that is not its own partner and is answered by o
+abbrev pub joined_pair : Option JoinedLeg → JoinedLeg → Bool
+joined_pair o j = not (eqb j.leg j.partner) && has (answers_joined j) o
 
 paired_at : (m n : ℕ) (s t : Standing) →
     none_or (λ (e : Entry). partnered_by e.leg e.connection (entry_of n t)) (entry_of m s)
-    ≡ (eqb (key_of s).joined 0 || (not (eqb m (key_of s).partner) && (eqb (key_of t).joined 1 && answers_key m s n t)))
-unfolding key_of
+    ≡ none_or (joined_pair (bind_option joined_in (entry_of n t))) (bind_option joined_in (entry_of m s))
 paired_at m n Empty t = refl
-paired_at m n (Served c) t = go c.reference.0 c.link _
-  where
-    go : (r : ℕ) (k : OptionalLinkId) (x : Bool) → true ≡ (eqb (call_key r k).joined 0 || x)
-    go r Absent x = refl
-    go r (Present z) x = refl
+paired_at m n (Served c) t = refl
 paired_at m n (Joined p a) Empty = refl
-paired_at m n (Joined p a) (Served d) = ap (λ (b : Bool). not (eqb m p) && b) (rw (and-false (eqb p n)) (go d.reference.0 d.link _))
-  where
-    go : (r : ℕ) (k : OptionalLinkId) (x : Bool) → false ≡ (eqb (call_key r k).joined 1 && x)
-    go r Absent x = refl
-    go r (Present z) x = refl
-paired_at m n (Joined p a) (Joined q b) = rw (bit_one a, bit_one b)
+paired_at m n (Joined p a) (Served d) = rw (and-false (eqb p n))
+paired_at m n (Joined p a) (Joined q b) = refl
 
-pub paired_by_keys : (a b : Row) →
-    paired a b
-    ≡ (eqb (key_of a.standing).joined 0
-    || (not (eqb a.leg (key_of a.standing).partner)
-    && (eqb (key_of b.standing).joined 1 && answers_key a.leg a.standing b.leg b.standing)))
+pub paired_by_legs : (a b : Row) → paired a b ≡ none_or (joined_pair (in_row joined_in b)) (in_row joined_in a)
 unfolding paired
-paired_by_keys a b = paired_at a.leg b.leg a.standing b.standing
+paired_by_legs a b = paired_at a.leg b.leg a.standing b.standing

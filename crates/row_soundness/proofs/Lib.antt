@@ -1,3 +1,2 @@
--- Laws of digits and of what rows are compared by.
-pub mod Digits
+-- Laws of what rows are compared by.
 pub mod KeyLaws

@@ -2,229 +2,109 @@
 #![tactic(auto)]
 
 ghost use Rattle.std.specs.Prelude.{◌≡◌};
-ghost use Rattle.octets.specs.Tests.{none_or};
-ghost use Rattle.board.specs.States.{same_auxiliary, valid_direction, holdable, valid_call};
-ghost use Rattle.board.specs.Entries.{row_entry};
-ghost use Rattle.board.specs.Soundness.{valid_digits, valid_number, valid_standing, valid_entry};
+ghost use Rattle.octets.specs.Tests.{has_both};
+ghost use Rattle.board.specs.States.{valid_direction, holdable, valid_call};
+ghost use Rattle.board.specs.Soundness.{valid_number, valid_standing};
 ghost use Rattle.board.specs.Code.RowTests.{fits, clash, paired, taken_row};
 ghost use Rattle.board.specs.Code.Tallies.{row_tally};
-ghost use Rattle.row_soundness.specs.Code.RowKeys.{both_same};
 
 use board::finding::is_occupied;
 use board::{
-    AuxiliaryState, Call, CallState, Direction, OptionalLinkId, PartyNumber, Row, Standing, Tally,
+    AuxiliaryState, Call, CallState, Direction, PartyNumber, Row, Standing, Tally, valid_digits,
 };
-use keys::{JoinedLeg, answers, row_key};
+use keys::{answers, joined_leg, leg, link, reference};
 
 pub mod keys;
 
+// 3 and 4 are only outgoing, 7 only incoming.
 fn direction_valid(state: CallState, direction: Direction) -> bool
     ensures { result ≡ valid_direction state direction }
 {
-    match state {
-        CallState::OutgoingCallProceeding => match direction {
-            Direction::Outgoing => true,
-            Direction::Incoming => false,
-        },
-        CallState::CallDelivered => match direction {
-            Direction::Outgoing => true,
-            Direction::Incoming => false,
-        },
-        CallState::CallReceived => match direction {
-            Direction::Outgoing => false,
-            Direction::Incoming => true,
-        },
-        CallState::Active => match direction {
-            Direction::Outgoing => true,
-            Direction::Incoming => true,
-        },
-    }
-}
-
-fn is_idle(auxiliary: AuxiliaryState) -> bool
-    ensures { result ≡ same_auxiliary auxiliary AuxiliaryState.Idle }
-{
-    match auxiliary {
-        AuxiliaryState::Idle => true,
-        AuxiliaryState::HoldRequest => false,
-        AuxiliaryState::CallHeld => false,
-        AuxiliaryState::RetrieveRequest => false,
+    match direction {
+        Direction::Outgoing => state != CallState::CallReceived,
+        Direction::Incoming => matches!(state, CallState::CallReceived | CallState::Active),
     }
 }
 
 pub fn is_holdable(state: CallState) -> bool
     ensures { result ≡ holdable state }
 {
-    match state {
-        CallState::OutgoingCallProceeding => false,
-        CallState::CallDelivered => true,
-        CallState::CallReceived => false,
-        CallState::Active => true,
-    }
+    matches!(state, CallState::CallDelivered | CallState::Active)
 }
 
 fn call_valid(call: Call) -> bool
     ensures { result ≡ valid_call call }
 {
-    let state = call.state;
-    let direction = call.direction;
-    let auxiliary = call.auxiliary;
-    if call.reference.0 % 32768 == 0 {
-        return false;
-    }
-    if !direction_valid(state, direction) {
-        return false;
-    }
-    if is_idle(auxiliary) {
-        return true;
-    }
-    is_holdable(state)
-}
-
-// That many digits, and then zeros. The loop has constant bounds and no way out of it, so that it compiles to few
-// instructions.
-fn digits_valid(count: u8, digits: [u8; 15]) -> bool
-    ensures { result ≡ valid_digits count digits }
-{
-    if 15 < count {
-        return false;
-    }
-    let mut valid = true;
-    for k in 0..15 {
-        let d = digits[k];
-        let within = (k as u8) < count;
-        valid = valid & ((within & ((48 <= d) & (d <= 57))) | (!within & (d == 0)));
-    }
-    valid
+    call.reference.0 % 32768 != 0
+        && direction_valid(call.state, call.direction)
+        && (call.auxiliary == AuxiliaryState::Idle || is_holdable(call.state))
 }
 
 fn empty_fits(row: Row) -> bool
     ensures { result ≡ valid_standing row.leg row.number Standing.Empty }
 {
     let number = row.number;
-    let digits = number.digits;
-    if row.leg != 0 {
-        return false;
-    }
-    if number.presentation != 0 {
-        return false;
-    }
-    if number.count != 0 {
-        return false;
-    }
-    digits_valid(0, digits)
+    row.leg == 0 && number.presentation == 0 && number.count == 0 && valid_digits(0, &number.digits)
 }
 
 fn number_fits(number: PartyNumber) -> bool
     ensures { result ≡ valid_number number }
 {
-    let digits = number.digits;
-    if 1 < number.presentation {
-        return false;
-    }
-    digits_valid(number.count, digits)
+    number.presentation <= 1 && valid_digits(number.count, &number.digits)
 }
 
 pub fn is_taken(row: Row) -> bool
     ensures { result ≡ taken_row row }
 {
-    let standing = row.standing;
-    is_occupied(standing)
-}
-
-fn call_fits(row: Row) -> bool
-    ensures { result ≡ none_or valid_entry (row_entry row) }
-{
-    let standing = row.standing;
-    match standing {
-        Standing::Empty => true,
-        Standing::Served(call) => call_valid(call),
-        Standing::Joined { .. } => true,
-    }
+    is_occupied(row.standing)
 }
 
 // The fields of one row obey their rules.
+#[tactic(auto, unfolding(board::specs::Code::RowTests::fits, board::specs::Soundness::valid_row))]
 pub fn row_fits(row: Row) -> bool
     ensures { result ≡ fits row }
 {
-    if is_taken(row) {
-        if call_fits(row) {
-            let number = row.number;
-            return number_fits(number);
-        }
-        return false;
+    match row.standing {
+        Standing::Empty => empty_fits(row),
+        Standing::Served(call) => call_valid(call) && number_fits(row.number),
+        Standing::Joined { .. } => number_fits(row.number),
     }
-    empty_fits(row)
 }
 
-// Two numbers that are both there, as their counts of 1 say, and the same.
-fn both_same(j: usize, m: u32, k: usize, n: u32) -> bool
-    ensures { result ≡ both_same j m k n }
+fn both_same<T: Copy + PartialEq>(x: Option<T>, y: Option<T>) -> bool
+    ensures { result ≡ has_both T.eq x y }
 {
-    (j == 1) & ((k == 1) & (m == n))
+    match (x, y) {
+        (Some(m), Some(n)) => m == n,
+        _ => false,
+    }
 }
 
 // Two rows share a leg, a reference or a LinkId.
 pub fn rows_clash(a: Row, b: Row) -> bool
     ensures { result ≡ clash a b }
 {
-    let k = row_key(a);
-    let l = row_key(b);
-    let legs = is_taken(a) & is_taken(b) & (a.leg == b.leg);
-    let references = both_same(k.served, k.reference, l.served, l.reference);
-    let links = both_same(k.linked, k.link, l.linked, l.link);
-    legs | (references | links)
+    both_same(leg(a), leg(b)) | both_same(reference(a), reference(b)) | both_same(link(a), link(b))
 }
 
 // Whether `b` is the partner of `a`, or `a` needs none.
 pub fn rows_paired(a: Row, b: Row) -> bool
     ensures { result ≡ paired a b }
 {
-    let k = row_key(a);
-    let l = row_key(b);
-    let own = JoinedLeg {
-        leg: a.leg,
-        partner: k.partner,
-        alerting: k.alerting,
-    };
-    let other = JoinedLeg {
-        leg: b.leg,
-        partner: l.partner,
-        alerting: l.alerting,
-    };
-    (k.joined == 0) | ((a.leg != k.partner) & ((l.joined == 1) & answers(own, other)))
+    match (joined_leg(a), joined_leg(b)) {
+        (None, _) => true,
+        (Some(own), Some(other)) => own.leg != own.partner && answers(own, other),
+        (Some(_), None) => false,
+    }
 }
 
 // What one row adds to each count.
 pub fn row_tally(row: Row) -> Tally
     ensures { result ≡ row_tally row }
 {
-    let standing = row.standing;
-    match standing {
-        Standing::Empty => Tally {
-            legs: 0,
-            joined: 0,
-            links: 0,
-        },
-        Standing::Joined { .. } => Tally {
-            legs: 1,
-            joined: 1,
-            links: 0,
-        },
-        Standing::Served(call) => {
-            let link = call.link;
-            match link {
-                OptionalLinkId::Absent => Tally {
-                    legs: 1,
-                    joined: 0,
-                    links: 0,
-                },
-                OptionalLinkId::Present(_) => Tally {
-                    legs: 1,
-                    joined: 0,
-                    links: 1,
-                },
-            }
-        }
+    Tally {
+        legs: usize::from(is_taken(row)),
+        joined: usize::from(joined_leg(row).is_some()),
+        links: usize::from(link(row).is_some()),
     }
 }

@@ -1,6 +1,2 @@
--- Laws of the walks through lent rows.
-pub mod Folds
-pub mod Searching
-pub mod Comparing
-pub mod Summing
+-- What is answered of lent rows is what the board answers.
 pub mod Agreement

@@ -1,172 +1,105 @@
-// Lookup and counts over rows that are lent as a slice, however many. A row is copied out of the slice, and what is
-// decided of it is decided in functions over rows by value.
+// Lookup and counts over rows that are lent as a slice, however many.
 #![tactic(auto)]
 
-ghost use Rattle.std.specs.Prelude.{◌≡◌, ◌+◌, ◌≤◌, ◌<◌, ◌^◌};
+ghost use Rattle.std.specs.Prelude.{◌≡◌, leb};
+ghost use Rattle.octets.specs.Lists.{any, all, distinct};
+ghost use Rattle.board.specs.Entries.{taken, link_ids};
+ghost use Rattle.board.specs.LinkIds.{most_link_ids};
 ghost use Rattle.board.specs.Lookup.{found_answer, lookup as lookup_rows};
 ghost use Rattle.board.specs.Counts.{counted_answer, counts};
-ghost use Rattle.rows.specs.Code.Steps.{lookup_step, compared, compared_with_all, added, counted};
+ghost use Rattle.board.specs.Soundness.{sound_rows};
+ghost use Rattle.board.specs.Code.RowTests.{fits, clash, paired};
 
 use board::finding::is_call_of;
-use board::{Counted, Found, MOST_LINK_IDS, Row};
+use board::{Counts, MOST_LINK_IDS, Row, Unsound};
 use octets::CallReference;
-use row_soundness::{row_fits, row_tally, rows_clash, rows_paired};
-
-// What is found once the row at that place is read: the first place found stays.
-fn lookup_step(found: Found, row: Row, reference: CallReference, place: usize) -> Found
-    ensures { result ≡ lookup_step reference.0 found row place }
-{
-    let standing = row.standing;
-    match found {
-        Found::At(first) => Found::At(first),
-        Found::Nothing => {
-            if is_call_of(standing, reference) {
-                return Found::At(place);
-            }
-            Found::Nothing
-        }
-    }
-}
+use row_soundness::{row_fits, rows_clash, rows_paired};
+use soundness::tally;
 
 // The lowest place, counted from 0, with a call of that reference.
-#[tactic(auto, using(crate::proofs::Folds::fold_end, crate::proofs::Searching::found_all))]
-pub fn lookup(rows: &[Row], reference: CallReference) -> Found
+pub fn lookup(rows: &[Row], reference: CallReference) -> Option<usize>
     ensures { found_answer result ≡ lookup_rows reference.0 rows.now }
 {
-    let mut found = Found::Nothing;
-    let mut place = 0usize;
-    while place < rows.len() {
-        let row = rows[place];
-        found = lookup_step(found, row, reference, place);
-        place = place + 1;
-    }
-    found
+    rows.iter()
+        .position(|row| is_call_of(row.standing, reference))
 }
 
 // The same of 64 rows by value.
-pub fn lookup_in(rows: [Row; 64], reference: CallReference) -> Found
+pub fn lookup_in(rows: [Row; 64], reference: CallReference) -> Option<usize>
     ensures { found_answer result ≡ lookup_rows reference.0 rows }
 {
     lookup(&rows, reference)
 }
 
-// A row and its place.
-#[derive(Clone, Copy)]
-struct RowAt {
-    row: Row,
-    place: usize,
-}
-
-// What the rows say of one: whether a later row clashes with it, and whether a row is its partner or it needs none.
-#[derive(Clone, Copy)]
-struct Comparison {
-    clashes: bool,
-    paired: bool,
-}
-
-// What is known of a row once another one, at that place, is held against it.
-fn compare(comparison: Comparison, other: Row, subject: RowAt, place: usize) -> Comparison
-    ensures { result ≡ compared comparison other subject place }
+fn all_fit(rows: &[Row]) -> bool
+    ensures { result ≡ all fits rows.now }
 {
-    let row = subject.row;
-    let paired = comparison.paired | rows_paired(row, other);
-    if subject.place < place {
-        return Comparison {
-            clashes: comparison.clashes | rows_clash(row, other),
-            paired,
-        };
-    }
-    Comparison {
-        clashes: comparison.clashes,
-        paired,
-    }
+    rows.iter().all(|row| row_fits(*row))
 }
 
-// What all rows say of one of them.
-#[tactic(auto, using(crate::proofs::Folds::fold_step, crate::proofs::Folds::fold_end, crate::proofs::Comparing::compared_all))]
-fn compare_with_all(rows: &[Row], subject: RowAt) -> Comparison
-    ensures { result ≡ compared_with_all subject rows.now }
+fn clashes(row: Row, later: &[Row]) -> bool
+    ensures { result ≡ any (clash row) later.now }
 {
-    let mut comparison = Comparison {
-        clashes: false,
-        paired: false,
-    };
-    let mut place = 0usize;
-    while place < rows.len() {
-        let other = rows[place];
-        comparison = compare(comparison, other, subject, place);
-        place = place + 1;
-    }
-    comparison
+    later.iter().any(|other| rows_clash(row, *other))
 }
 
-// Whether the rows so far obey the rules, that on the number of LinkIds apart, and how many are taken, are joined and
-// have a LinkId.
-#[derive(Clone, Copy)]
-struct Sums {
-    sound: bool,
-    legs: usize,
-    joined: usize,
-    links: usize,
-}
-
-// One row more, with what the rows say of it. Each count is at most the place, so that no sum overflows.
-fn add(sums: Sums, subject: RowAt, comparison: Comparison) -> Sums
-    requires { (sums.legs ≤ subject.place) × (sums.joined ≤ subject.place) × (sums.links ≤ subject.place)
-        × (subject.place + 1 < 2 ^ 64) }
-    ensures { result ≡ added sums subject comparison }
+fn none_clash(rows: &[Row]) -> bool
+    ensures { result ≡ distinct clash rows.now }
 {
-    let row = subject.row;
-    let t = row_tally(row);
-    Sums {
-        sound: sums.sound & row_fits(row) & !comparison.clashes & comparison.paired,
-        legs: sums.legs + t.legs,
-        joined: sums.joined + t.joined,
-        links: sums.links + t.links,
+    let mut rest = rows;
+    while let Some((row, later)) = rest.split_first() {
+        if clashes(*row, later) {
+            return false;
+        }
+        rest = later;
     }
+    true
 }
 
-// The answer once all rows are read.
-fn answer(sums: Sums) -> Counted
-    ensures { result ≡ counted sums }
+// Whether one of the rows is the partner of this one, or it needs none.
+fn is_paired(row: Row, rows: &[Row]) -> bool
+    ensures { result ≡ any (paired row) rows.now }
 {
-    if MOST_LINK_IDS < sums.links {
-        return Counted::Unsound;
-    }
-    if sums.sound {
-        return Counted::Counts {
-            legs: sums.legs,
-            pairs: sums.joined / 2,
-            links: sums.links,
-        };
-    }
-    Counted::Unsound
+    rows.iter().any(|other| rows_paired(row, *other))
+}
+
+fn all_paired(rows: &[Row]) -> bool
+    ensures { result ≡ all (λ a. any (paired a) rows.now) rows.now }
+{
+    rows.iter().all(|row| is_paired(*row, rows))
+}
+
+#[tactic(auto, unfolding(board::specs::Code::Tallies::tally_of))]
+fn few_link_ids(rows: &[Row]) -> bool
+    ensures { result ≡ leb (link_ids (taken rows.now)) most_link_ids }
+{
+    tally(rows).links <= MOST_LINK_IDS
+}
+
+#[tactic(auto, using(board::proofs::Rows::sound_by_rows))]
+fn sound(rows: &[Row]) -> bool
+    ensures { result ≡ sound_rows rows.now }
+{
+    all_fit(rows) && none_clash(rows) && few_link_ids(rows) && all_paired(rows)
 }
 
 // The counts of the rows, once they are found sound.
-#[tactic(auto, using(crate::proofs::Summing::summing_end))]
-pub fn count(rows: &[Row]) -> Counted
+pub fn count(rows: &[Row]) -> Result<Counts, Unsound>
     ensures { counted_answer result ≡ counts rows.now }
 {
-    let mut sums = Sums {
-        sound: true,
-        legs: 0,
-        joined: 0,
-        links: 0,
-    };
-    let mut place = 0usize;
-    while place < rows.len() {
-        let row = rows[place];
-        let subject = RowAt { row, place };
-        let comparison = compare_with_all(rows, subject);
-        sums = add(sums, subject, comparison);
-        place = place + 1;
+    if !sound(rows) {
+        return Err(Unsound);
     }
-    answer(sums)
+    let tally = tally(rows);
+    Ok(Counts {
+        legs: tally.legs,
+        pairs: tally.joined / 2,
+        links: tally.links,
+    })
 }
 
 // The same of 64 rows by value.
-pub fn count_in(rows: [Row; 64]) -> Counted
+pub fn count_in(rows: [Row; 64]) -> Result<Counts, Unsound>
     ensures { counted_answer result ≡ counts rows }
 {
     count(&rows)

@@ -1,18 +1,17 @@
 -- Board and book stay together from event to event.
+use Rattle.std.specs.Prelude.{Option}
 use Prim.Native.Nat.{ℕ}
 use mathlib.Core.Path.{◌∙◌, ◌≡◌, refl, ap, ap₂, subst, subst⁻¹}
 use mathlib.Core.Bool.{true, Bool, cond, false}
 use mathlib.Core.List.{◌∷◌, List, []}
-use mathlib.Core.Option.{Option}
 use lib.Dec.{eqb, leb, ltb}
 use lib.ListN.{length, get_or, drop}
 use Rattle.board.proofs.SoundEntries.{Sound, of_sound, sound_perm, sound_of}
 use Rattle.board.specs.Changes.{full}
 use Rattle.board.specs.Entries.{taken}
-use Rattle.board.specs.Making.{options, fresh, empty_board, making_refused}
+use Rattle.board.specs.Making.{Made, options, fresh, empty_board, making_refused}
 use Rattle.board.specs.Soundness.{valid_row, valid_options, sound, sound_rows, sound_entries}
 use Rattle.board.specs.declared.Board.{Board}
-use Rattle.board.specs.declared.Made.{Made}
 use Rattle.board.specs.declared.Options.{Options}
 use Rattle.rules.proofs.Kept.{kept}
 use Rattle.rules.proofs.Order.{decide_perm}

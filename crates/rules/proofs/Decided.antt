@@ -1,9 +1,9 @@
 -- The ways that a decision can go, each with what is known there. What holds of every decision is proved by these cases.
+use Rattle.std.specs.Prelude.{None, Option, Some}
 use Prim.Native.Nat.{ℕ}
 use mathlib.Core.Path.{◌≡◌, refl}
 use mathlib.Core.Bool.{◌&&◌, false, true, Bool, cond}
 use mathlib.Core.List.{List, Memᴰ}
-use mathlib.Core.Option.{Option, some, none}
 use lib.Dec.{leb, eqb}
 use lib.ListN.{length, take}
 use lib.IntN.{ℤ}
@@ -47,16 +47,16 @@ module _ (opt : Options) (z : ℤ) (ps : List Party) (p : Party) where
   pub data ComesTo : Service → Type 0 where
     silent : ComesTo Silent
     respond : (a : ComponentAnswer) → ComesTo (Respond a)
-    assigned : {y : ℤ} (i : IntegerOctets) → free_link_id most_link_ids z (live ps) ≡ some y → leb most_link_ids (length (live ps)) ≡ false → ComesTo (AssignLinkId (record { 0 = y }) i)
+    assigned : {y : ℤ} (i : IntegerOctets) → free_link_id most_link_ids z (live ps) ≡ Some y → leb most_link_ids (length (live ps)) ≡ false → ComesTo (AssignLinkId (record { 0 = y }) i)
     transferred : {q : Party} (i : IntegerOctets) → Memᴰ q ps → partner_for opt p q ≡ true → ComesTo (Transfer p q i)
 
   execute_is : (i : IntegerOctets) (o : Option Party) → only (filter (partner_for opt p) ps) ≡ o → ComesTo (execute p i o)
-  execute_is i none e = respond _
-  execute_is i (some q) e = let m = filter_mem (partner_for opt p) ps (only_mem (filter (partner_for opt p) ps) e) in transferred i m.0 m.1
+  execute_is i None e = respond _
+  execute_is i (Some q) e = let m = filter_mem (partner_for opt p) ps (only_mem (filter (partner_for opt p) ps) e) in transferred i m.0 m.1
 
   explicit_is : (i : IntegerOctets) (l : LinkId) (o : Option Party) → find (has_party_link_id l.0) ps ≡ o → ComesTo (execute_explicitly opt p i o)
-  explicit_is i l none e = respond _
-  explicit_is i l (some q) e = go (partner_for opt p q) refl
+  explicit_is i l None e = respond _
+  explicit_is i l (Some q) e = go (partner_for opt p q) refl
     where
       go : (b : Bool) → partner_for opt p q ≡ b → ComesTo (cond b (Transfer p q i) (error i 7))
       go true h = transferred i (find_mem (has_party_link_id l.0) ps e).0 h
@@ -67,12 +67,12 @@ module _ (opt : Options) (z : ℤ) (ps : List Party) (p : Party) where
     where
       go : (b : Bool) → leb most_link_ids (length (live ps)) ≡ b → (o : Option ℤ) → free_link_id most_link_ids z (live ps) ≡ o → ComesTo (cond b (error i 11) (assign i o))
       go true h o e = respond _
-      go false h none e = respond _
-      go false h (some y) e = assigned i e h
+      go false h None e = respond _
+      go false h (Some y) e = assigned i e h
 
   request_is : (i : IntegerOctets) (o : Option ℤ) → ComesTo (link_id_request z (live ps) i o)
-  request_is i none = new_is i
-  request_is i (some y) = respond _
+  request_is i None = new_is i
+  request_is i (Some y) = respond _
 
   perform_is : (i : IntegerOctets) (op : Operation) → ComesTo (perform opt z ps p i op)
   perform_is i EctExecute = execute_is i (only (filter (partner_for opt p) ps)) refl
@@ -109,15 +109,15 @@ module _ (opt : Options) (z : ℤ) (w : Bool) (es : List Entry) where
   pub data Decided : Request → Decision → Type 0 where
     refuses : {q : Request} (c : Refusal) → Decided q (Refuse c)
     -- an event that opens and ends no leg and changes nothing, whatever it writes
-    changes_nothing : {q : Request} {w : Written} → ((l : ℕ) → opens_leg l q ≡ false) → ((l : ℕ) → ends_leg es l q ≡ false) → (in_range q ≡ true → Short w) → Decided q (Accept none w)
+    changes_nothing : {q : Request} {w : Written} → ((l : ℕ) → opens_leg l q ≡ false) → ((l : ℕ) → ends_leg es l q ≡ false) → (in_range q ≡ true → Short w) → Decided q (Accept None w)
     opens_leg_lem : {r l : ℕ} {d : Direction} {n : PartyNumber} → any (has_leg l) es ≡ false → any (has_reference r) es ≡ false → w ≡ false →
         Decided (Open r l d n) (opening r l d n)
-    sets_state : {r : ℕ} {s : CallState} {p : Party} → named r es ≡ some p → may_progress p.call.state s ≡ true →
+    sets_state : {r : ℕ} {s : CallState} {p : Party} → named r es ≡ Some p → may_progress p.call.state s ≡ true →
         Decided (Progress r s) (accept (change.SetState (record { 0 = r }) s) nothing)
-    sets_auxiliary : {r : ℕ} {a : AuxiliaryState} {p : Party} → named r es ≡ some p → (holdable p.call.state && may_hold p.call.auxiliary a) ≡ true →
+    sets_auxiliary : {r : ℕ} {a : AuxiliaryState} {p : Party} → named r es ≡ Some p → (holdable p.call.state && may_hold p.call.auxiliary a) ≡ true →
         Decided (Hold r a) (accept (change.SetAuxiliary (record { 0 = r }) a) nothing)
     releases : {l : ℕ} {e : Entry} → Memᴰ e es → has_leg l e ≡ true → Decided (Release l) (accept (release_of e.leg e.connection) (release_replies e.connection))
-    assigns_link_id : {r : ℕ} {c : List ℕ} {p : Party} {y : ℤ} (i : IntegerOctets) → Memᴰ p (calls es) → free_link_id most_link_ids z (live (calls es)) ≡ some y →
+    assigns_link_id : {r : ℕ} {c : List ℕ} {p : Party} {y : ℤ} (i : IntegerOctets) → Memᴰ p (calls es) → free_link_id most_link_ids z (live (calls es)) ≡ Some y →
         leb most_link_ids (length (live (calls es))) ≡ false → Decided (Facility r c) (service_decision opt p (AssignLinkId (record { 0 = y }) i))
     transfers : {r : ℕ} {c : List ℕ} {p o : Party} (i : IntegerOctets) → Memᴰ p (calls es) → Memᴰ o (calls es) → partner_for opt p o ≡ true →
         Decided (Facility r c) (service_decision opt p (Transfer p o i))
@@ -131,16 +131,16 @@ module _ (opt : Options) (z : ℤ) (w : Bool) (es : List Entry) where
   open_is r l d n false false false e f g = opens_leg_lem e f g
 
   progress_is : (r : ℕ) (s : CallState) (o : Option Party) → named r es ≡ o → Decided (Progress r s) (decide_progress r s o)
-  progress_is r s none e = refuses _
-  progress_is r s (some p) e = go (may_progress p.call.state s) refl
+  progress_is r s None e = refuses _
+  progress_is r s (Some p) e = go (may_progress p.call.state s) refl
     where
       go : (b : Bool) → may_progress p.call.state s ≡ b → Decided (Progress r s) (cond b (accept (change.SetState (record { 0 = r }) s) nothing) (Refuse refusal.NotPermitted))
       go true h = sets_state e h
       go false h = refuses _
 
   hold_is : (r : ℕ) (a : AuxiliaryState) (o : Option Party) → named r es ≡ o → Decided (Hold r a) (decide_hold r a o)
-  hold_is r a none e = refuses _
-  hold_is r a (some p) e = go (holdable p.call.state && may_hold p.call.auxiliary a) refl
+  hold_is r a None e = refuses _
+  hold_is r a (Some p) e = go (holdable p.call.state && may_hold p.call.auxiliary a) refl
     where
       go : (b : Bool) → (holdable p.call.state && may_hold p.call.auxiliary a) ≡ b →
           Decided (Hold r a) (cond b (accept (change.SetAuxiliary (record { 0 = r }) a) nothing) (Refuse refusal.NotPermitted))
@@ -148,8 +148,8 @@ module _ (opt : Options) (z : ℤ) (w : Bool) (es : List Entry) where
       go false h = refuses _
 
   release_is : (l : ℕ) (o : Option Entry) → entry_at l es ≡ o → Decided (Release l) (decide_release o)
-  release_is l none e = refuses _
-  release_is l (some x) e = let m = find_mem (has_leg l) es e in releases m.0 m.1
+  release_is l None e = refuses _
+  release_is l (Some x) e = let m = find_mem (has_leg l) es e in releases m.0 m.1
 
   service_is : (r : ℕ) (c : List ℕ) (p : Party) {v : Service} → Memᴰ p (calls es) → ComesTo opt z (calls es) p v → Decided (Facility r c) (service_decision opt p v)
   service_is r c p m silent = changes_nothing (λ l. refl) (λ l. refl) (λ h. nothing_short)
@@ -158,8 +158,8 @@ module _ (opt : Options) (z : ℤ) (w : Bool) (es : List Entry) where
   service_is r c p m (transferred i n h) = transfers i m n h
 
   facility_is : (r : ℕ) (c : List ℕ) (o : Option Party) → named r es ≡ o → Decided (Facility r c) (decide_facility opt z es c o)
-  facility_is r c none e = refuses _
-  facility_is r c (some p) e = service_is r c p (find_mem (has_party_reference r) (calls es) e).0 (served_is opt z (calls es) p (reading c))
+  facility_is r c None e = refuses _
+  facility_is r c (Some p) e = service_is r c p (find_mem (has_party_reference r) (calls es) e).0 (served_is opt z (calls es) p (reading c))
 
   alerting_is : (l : ℕ) (t : Connection) → Decided (Answer l) (decide_alerting opt l t)
   alerting_is l (WithUser c) = refuses _
@@ -167,20 +167,20 @@ module _ (opt : Options) (z : ℤ) (w : Bool) (es : List Entry) where
   alerting_is l (WithPartner p false) = refuses _
 
   answer_is : (l : ℕ) (o : Option Entry) → Decided (Answer l) (decide_answer opt l o)
-  answer_is l none = refuses _
-  answer_is l (some e) = alerting_is l e.connection
+  answer_is l None = refuses _
+  answer_is l (Some e) = alerting_is l e.connection
 
   passing_is : (l n : ℕ) (c : List ℕ) (t : Connection) → Decided (LegFacility l n c) (decide_passing n c t)
   passing_is l n c (WithUser call) = refuses _
   passing_is l n c (WithPartner p a) = go (is_subaddress_transfer (take n c))
     where
-      go : (b : Bool) → Decided (LegFacility l n c) (cond b (Accept none (passed_on_record p n c)) (Refuse refusal.NoSuchInvoke))
+      go : (b : Bool) → Decided (LegFacility l n c) (cond b (Accept None (passed_on_record p n c)) (Refuse refusal.NoSuchInvoke))
       go true = changes_nothing (λ m. refl) (λ m. refl) (passed_short p l n c)
       go false = refuses _
 
   leg_facility_is : (l n : ℕ) (c : List ℕ) (o : Option Entry) → Decided (LegFacility l n c) (decide_leg_facility n c o)
-  leg_facility_is l n c none = refuses _
-  leg_facility_is l n c (some e) = passing_is l n c e.connection
+  leg_facility_is l n c None = refuses _
+  leg_facility_is l n c (Some e) = passing_is l n c e.connection
 
   pub decided : (q : Request) → Decided q (decide opt z w es q)
   unfolding decide

@@ -1,4 +1,5 @@
 -- With fewer than 16 LinkIds live, one of the 16 values from the candidate upward is free, so a request for one is given it.
+use Rattle.std.specs.Prelude.{None, Option, Some}
 use Prim.Native.Nat.{◌+◌, ◌-◌, ◌<◌, ◌≤◌, suc, ℕ, zero, zero-le, suc-le-suc}
 use native.Mathlib.Nat.{le_refl, le_step, le_trans}
 use native.Mathlib.Omega.{arith}
@@ -6,7 +7,6 @@ use mathlib.Core.Path.{◌∙◌, refl, ap, ◌≡◌, sym}
 use mathlib.Core.Logic.{◌⊎◌, inr, inl}
 use mathlib.Core.Bool.{◌&&◌, ◌||◌, false, true, not, Bool, cond}
 use mathlib.Core.List.{◌∷◌, List, []}
-use mathlib.Core.Option.{none, some, Option}
 use lib.Dec.{eqb}
 use lib.ListN.{length}
 use lib.IntN.{ℤ, pos, negsuc}
@@ -104,12 +104,12 @@ run_distinct (suc n) z k h = both (ap not (run_apart n 1 z (next_link_id z) (le_
     after : Later 1 z (next_link_id z)
     after = by (next_rank z h)
 
-none_free : (n : ℕ) (z : ℤ) (used : List ℤ) → free_link_id n z used ≡ none → all (λ (y : ℤ). any (same_integer y) used) (run n z) ≡ true
+none_free : (n : ℕ) (z : ℤ) (used : List ℤ) → free_link_id n z used ≡ None → all (λ (y : ℤ). any (same_integer y) used) (run n z) ≡ true
 unfolding run
 none_free zero z used e = refl
 none_free (suc n) z used e = go (any (same_integer z) used) refl e (none_free n (next_link_id z) used)
   where
-    go : (b : Bool) → any (same_integer z) used ≡ b → unless_live b z (free_link_id n (next_link_id z) used) ≡ none → (free_link_id n (next_link_id z) used ≡ none → all (λ (y : ℤ). any (same_integer y) used) (run n (next_link_id z)) ≡ true) →
+    go : (b : Bool) → any (same_integer z) used ≡ b → unless_live b z (free_link_id n (next_link_id z) used) ≡ None → (free_link_id n (next_link_id z) used ≡ None → all (λ (y : ℤ). any (same_integer y) used) (run n (next_link_id z)) ≡ true) →
         (any (same_integer z) used && all (λ (y : ℤ). any (same_integer y) used) (run n (next_link_id z))) ≡ true
     go true h e f = both h (f e)
     go false h e f = let z : ◌≡◌ {A = ℕ} 0 1 = cc in absurd (omega arith)
@@ -150,16 +150,16 @@ no_more (y ∷ ys) used h k =
     (fewer (same_integer y) used (left (any (same_integer y) used) _ k))
 
 -- with fewer than n live, n values hold one that is not
-found : (n : ℕ) (z : ℤ) (used : List ℤ) → n ≤ most_link_ids → InInt16Range z → length used < n → (y : ℤ) × (free_link_id n z used ≡ some y)
+found : (n : ℕ) (z : ℤ) (used : List ℤ) → n ≤ most_link_ids → InInt16Range z → length used < n → (y : ℤ) × (free_link_id n z used ≡ Some y)
 found n z used top h k = go (free_link_id n z used) refl
   where
-    go : (o : Option ℤ) → free_link_id n z used ≡ o → (y : ℤ) × (free_link_id n z used ≡ some y)
-    go none e =
+    go : (o : Option ℤ) → free_link_id n z used ≡ o → (y : ℤ) × (free_link_id n z used ≡ Some y)
+    go None e =
         let m : length (run n z) ≤ length used = no_more (run n z) used (run_distinct n z top h) (none_free n z used e) in
         let l : length (run n z) ≡ n = run_length n z in
         absurd (omega arith)
-    go (some y) e = (y, e)
+    go (Some y) e = (y, e)
 
 module _ (z : ℤ) (used : List ℤ) (h : InInt16Range z) (few : length used < most_link_ids) where
-  pub one_free : (y : ℤ) × (free_link_id most_link_ids z used ≡ some y)
+  pub one_free : (y : ℤ) × (free_link_id most_link_ids z used ≡ Some y)
   one_free = found most_link_ids z used (le_refl most_link_ids) h few

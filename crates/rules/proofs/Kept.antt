@@ -1,4 +1,5 @@
 -- Sound entries stay sound, whatever is decided of them.
+use Rattle.std.specs.Prelude.{None, Option, Some}
 use Prim.Native.Nat.{◌+◌, ◌<◌, ◌≤◌, ℕ, zero, suc}
 use native.Mathlib.Nat.{le_trans}
 use native.Mathlib.Omega.{arith}
@@ -6,7 +7,6 @@ use mathlib.Core.Path.{◌∙◌, ap, ◌≡◌, subst, subst⁻¹, refl, sym, a
 use mathlib.Core.Logic.{◌⊎◌, inl, inr}
 use mathlib.Core.Bool.{◌&&◌, ◌||◌, Bool, false, not, true, cond}
 use mathlib.Core.List.{◌∷◌, List, Memᴰ, map, []}
-use mathlib.Core.Option.{some, none, Option}
 use lib.Dec.{eqb, leb, le→leb, nleb→lt, leb→le}
 use lib.ListN.{length}
 use lib.IntN.{ℤ}
@@ -52,11 +52,11 @@ entry_path p q = λ i. record { leg = p i; connection = q i }
 pub party_mem : (es : List Entry) {p : Party} → Memᴰ p (calls es) → Memᴰ (entry p.leg (WithUser p.call)) es
 party_mem es {p} m = go (filter_map_mem (λ (e : Entry). party_of e.leg e.connection) es m)
   where
-    is : (n : ℕ) (t : Connection) → party_of n t ≡ some p → entry n t ≡ entry p.leg (WithUser p.call)
+    is : (n : ℕ) (t : Connection) → party_of n t ≡ Some p → entry n t ≡ entry p.leg (WithUser p.call)
     is n (WithUser c) h = let d : record { leg = n; call = c } ≡ p = cc in ap (λ (q : Party). entry q.leg (WithUser q.call)) d
     is n (WithPartner q a) h = let z : ◌≡◌ {A = ℕ} 0 1 = cc in absurd (omega arith)
 
-    go : (e : Entry) × Memᴰ e es × (party_of e.leg e.connection ≡ some p) → Memᴰ (entry p.leg (WithUser p.call)) es
+    go : (e : Entry) × Memᴰ e es × (party_of e.leg e.connection ≡ Some p) → Memᴰ (entry p.leg (WithUser p.call)) es
     go r = subst (λ (e : Entry). Memᴰ e es) (is r.0.leg r.0.connection r.2) r.1
 
 pub mem_party : {es : List Entry} {n : ℕ} {c : Call} → Memᴰ (entry n (WithUser c)) es → Memᴰ (record { leg = n; call = c }) (calls es)
@@ -122,8 +122,8 @@ module _ (r : ℕ) (f : Call → Call) (same : (c : Call) → (f c).reference.0 
   ref_kept : (n : ℕ) (t : Connection) → reference_of (change_call r f n t) ≡ reference_of t
   ref_kept n (WithUser c) = go (eqb r c.reference.0)
     where
-      go : (b : Bool) → some (cond b (f c) c).reference.0 ≡ some c.reference.0
-      go true = ap {B = Option ℕ} some (same c)
+      go : (b : Bool) → Some (cond b (f c) c).reference.0 ≡ Some c.reference.0
+      go true = ap {B = Option ℕ} Some (same c)
       go false = refl
   ref_kept n (WithPartner p a) = refl
 
@@ -179,7 +179,7 @@ module _ (r : ℕ) (f : Call → Call) (same : (c : Call) → (f c).reference.0 
         (ap (λ (n : ℕ). leb n most_link_ids) (length_filter_of_map linked linked changed es (λ e. ap present (link_kept e.leg e.connection))) ∙ s.few)
 
 -- the named call is the one with the reference
-pub the_named : {es : List Entry} → Sound es → (r : ℕ) {p : Party} → named r es ≡ some p → (n : ℕ) (c : Call) → Memᴰ (entry n (WithUser c)) es → eqb r c.reference.0 ≡ true →
+pub the_named : {es : List Entry} → Sound es → (r : ℕ) {p : Party} → named r es ≡ Some p → (n : ℕ) (c : Call) → Memᴰ (entry n (WithUser c)) es → eqb r c.reference.0 ≡ true →
     p ≡ record { leg = n; call = c }
 the_named {es} s r {p} e n c m h =
     small_mem (filter (has_party_reference r) (calls es)) (calls_one r s)
@@ -215,7 +215,7 @@ moved_right Active CallDelivered d i b m h = absurd (true_not_false m refl)
 moved_right Active CallReceived d i b m h = absurd (true_not_false m refl)
 moved_right Active Active d i b m h = absurd (true_not_false m refl)
 
-moves_sound : (es : List Entry) → Sound es → (r : ℕ) (s : CallState) {p : Party} → named r es ≡ some p → may_progress p.call.state s ≡ true →
+moves_sound : (es : List Entry) → Sound es → (r : ℕ) (s : CallState) {p : Party} → named r es ≡ Some p → may_progress p.call.state s ≡ true →
     Sound (map (map_connection (change_call r (with_state s))) es)
 moves_sound es v r s e h = plain_sound r (with_state s) (λ c. refl) (λ c. refl) es v ok
   where
@@ -228,7 +228,7 @@ moves_sound es v r s e h = plain_sound r (with_state s) (λ c. refl) (λ c. refl
 held_right : (s : CallState) (d : Direction) (i j b : Bool) → holdable s ≡ true → (b && valid_direction s d && (i || holdable s)) ≡ true → (b && valid_direction s d && (j || holdable s)) ≡ true
 held_right s d i j b k h = both (left (b && valid_direction s d) _ h) (or_right j (holdable s) k)
 
-holds_sound : (es : List Entry) → Sound es → (r : ℕ) (x : AuxiliaryState) {p : Party} → named r es ≡ some p → holdable p.call.state ≡ true →
+holds_sound : (es : List Entry) → Sound es → (r : ℕ) (x : AuxiliaryState) {p : Party} → named r es ≡ Some p → holdable p.call.state ≡ true →
     Sound (map (map_connection (change_call r (with_auxiliary x))) es)
 holds_sound es v r x e h = plain_sound r (with_auxiliary x) (λ c. refl) (λ c. refl) es v ok
   where
@@ -244,7 +244,7 @@ abbrev link_id : ℤ → LinkId
 link_id z = record { 0 = z }
 
 -- a value that is found is the first one that is not live
-pub first_not_live : (n : ℕ) (z : ℤ) (used : List ℤ) {y : ℤ} → free_link_id n z used ≡ some y → FirstNotLive z used y
+pub first_not_live : (n : ℕ) (z : ℤ) (used : List ℤ) {y : ℤ} → free_link_id n z used ≡ Some y → FirstNotLive z used y
 first_not_live zero z used {y} e = let z : ◌≡◌ {A = ℕ} 0 1 = cc in absurd (omega arith)
 first_not_live (suc n) z used {y} e = go (any (same_integer z) used) refl e (first_not_live n (next_link_id z) used {y = y})
   where
@@ -252,7 +252,7 @@ first_not_live (suc n) z used {y} e = go (any (same_integer z) used) refl e (fir
     before f h zero l = h
     before f h (suc m) l = f.live_before m (omega arith)
 
-    go : (b : Bool) → any (same_integer z) used ≡ b → unless_live b z (free_link_id n (next_link_id z) used) ≡ some y → (free_link_id n (next_link_id z) used ≡ some y → FirstNotLive (next_link_id z) used y) → FirstNotLive z used y
+    go : (b : Bool) → any (same_integer z) used ≡ b → unless_live b z (free_link_id n (next_link_id z) used) ≡ Some y → (free_link_id n (next_link_id z) used ≡ Some y → FirstNotLive (next_link_id z) used y) → FirstNotLive z used y
     go true h e f = let r = f e in record { steps = suc r.steps; reached = r.reached; not_live = r.not_live; live_before = before r h }
     go false h e f = let d : z ≡ y = cc in record { steps = 0; reached = d; not_live = subst (λ (x : ℤ). any (same_integer x) used ≡ false) d h; live_before = λ m l. absurd (omega (arith, l)) }
 
@@ -261,8 +261,8 @@ live_length [] = refl
 live_length (e ∷ es) = go e.leg e.connection (live_length es)
   where
     link : (o : Option ℤ) → length (live (calls es)) ≡ link_ids es → length (cons_opt o (live (calls es))) ≡ length (cons_if (present o) e (filter linked es))
-    link none h = h
-    link (some y) h = ap suc h
+    link None h = h
+    link (Some y) h = ap suc h
 
     go : (n : ℕ) (t : Connection) → length (live (calls es)) ≡ link_ids es → length (live (cons_opt (party_of n t) (calls es))) ≡ length (cons_if (present (link_id_of t)) e (filter linked es))
     go n (WithUser c) h = link (link_id_in c.link) h
@@ -272,24 +272,24 @@ module _ (r : ℕ) (z : ℤ) where
   abbrev given : Entry → Entry
   given = map_connection (change_call r (with_link_id (link_id z)))
 
-  given_link : (n : ℕ) (t : Connection) → link_id_of (change_call r (with_link_id (link_id z)) n t) ≡ cond (is_number r (reference_of t)) (some z) (link_id_of t)
+  given_link : (n : ℕ) (t : Connection) → link_id_of (change_call r (with_link_id (link_id z)) n t) ≡ cond (is_number r (reference_of t)) (Some z) (link_id_of t)
   given_link n (WithUser c) = go (eqb r c.reference.0)
     where
-      go : (b : Bool) → link_id_in (cond b (with_link_id (link_id z) c) c).link ≡ cond b (some z) (link_id_in c.link)
+      go : (b : Bool) → link_id_in (cond b (with_link_id (link_id z) c) c).link ≡ cond b (Some z) (link_id_in c.link)
       go true = refl
       go false = refl
   given_link n (WithPartner p a) = refl
 
-  not_z : (o : Option ℤ) → is_link_id z o ≡ false → same_link_ids_in o (some z) ≡ false
-  not_z none h = refl
-  not_z (some y) h = go (test (same_integer y z))
+  not_z : (o : Option ℤ) → is_link_id z o ≡ false → same_link_ids_in o (Some z) ≡ false
+  not_z None h = refl
+  not_z (Some y) h = go (test (same_integer y z))
     where
       go : (same_integer y z ≡ true) ⊎ (same_integer y z ≡ false) → same_integer y z ≡ false
       go (inl t) = absurd (true_not_false (subst (λ (w : ℤ). same_integer z w ≡ true) (sym (same_integer_eq y z t)) (same_integer_self z)) h)
       go (inr t) = t
 
   given_apart : (a b : Bool) (o u : Option ℤ) → (a && b) ≡ false → is_link_id z o ≡ false → is_link_id z u ≡ false → same_link_ids_in o u ≡ false →
-      same_link_ids_in (cond a (some z) o) (cond b (some z) u) ≡ false
+      same_link_ids_in (cond a (Some z) o) (cond b (Some z) u) ≡ false
   given_apart true true o u h x y w = absurd (true_not_false refl h)
   given_apart true false o u h x y w = y
   given_apart false true o u h x y w = not_z o x
@@ -323,7 +323,7 @@ module _ (r : ℕ) (z : ℤ) where
   given_linked : (e : Entry) → linked (given e) ≡ true → (linked e || has_reference r e) ≡ true
   given_linked e h = go (has_reference r e) (link_id_of e.connection) (sym (ap present (given_link e.leg e.connection)) ∙ h)
     where
-      go : (b : Bool) (o : Option ℤ) → present (cond b (some z) o) ≡ true → (present o || b) ≡ true
+      go : (b : Bool) (o : Option ℤ) → present (cond b (Some z) o) ≡ true → (present o || b) ≡ true
       go true o t = or_right (present o) true refl
       go false o t = or_left (present o) false t
 
@@ -345,7 +345,7 @@ module _ (r : ℕ) (z : ℤ) where
 abbrev pub remains : Entry → Entry → Bool
 remains e f = not (eqb f.leg e.leg || is_partner f.leg e.connection)
 
-pub released : (n : ℕ) (t : Connection) (es : List Entry) → entries_after (some (Apply (release_of n t))) es ≡ filter (remains (entry n t)) es
+pub released : (n : ℕ) (t : Connection) (es : List Entry) → entries_after (Some (Apply (release_of n t))) es ≡ filter (remains (entry n t)) es
 unfolding entries_after
 released n (WithUser c) es = refl
 released n (WithPartner p a) es = refl
@@ -455,13 +455,13 @@ module _ (es : List Entry) (s : Sound es) (p q : Party) (mp : Memᴰ p (calls es
       go false false = inr refl
   tied_is n (WithPartner m a) = inr refl
 
-  none_number : (o : Option ℕ) → same_numbers o none ≡ true → ⊥
-  none_number none h = true_not_false h refl
-  none_number (some n) h = true_not_false h refl
+  none_number : (o : Option ℕ) → same_numbers o None ≡ true → ⊥
+  none_number None h = true_not_false h refl
+  none_number (Some n) h = true_not_false h refl
 
-  none_link : (o : Option ℤ) → same_link_ids_in o none ≡ true → ⊥
-  none_link none h = true_not_false h refl
-  none_link (some n) h = true_not_false h refl
+  none_link : (o : Option ℤ) → same_link_ids_in o None ≡ true → ⊥
+  none_link None h = true_not_false h refl
+  none_link (Some n) h = true_not_false h refl
 
   tied_refs : (e f : Entry) → same_references (tied e) (tied f) ≡ true → same_references e f ≡ true
   tied_refs e f h = go (tied_is e.leg e.connection) (tied_is f.leg f.connection)
@@ -570,8 +570,8 @@ not_both_ring opt c d h = go (test (delivered c && delivered d))
   where
     go : ((delivered c && delivered d) ≡ true) ⊎ ((delivered c && delivered d) ≡ false) → (delivered c && delivered d) ≡ false
     go (inl t) =
-        let none : verdict c d ≡ 0 = no_verdict (held_with_idle c d) (active c) (active d) (delivered c) (delivered d) (outgoing c) (outgoing d) (ringing c.state (left (delivered c) (delivered d) t)) (ringing d.state (right (delivered c) (delivered d) t)) in
-        absurd (true_not_false h (ap (λ (v : ℕ). eqb v 1 || (eqb v 2 && eqb opt.alerting 1)) none))
+        let None : verdict c d ≡ 0 = no_verdict (held_with_idle c d) (active c) (active d) (delivered c) (delivered d) (outgoing c) (outgoing d) (ringing c.state (left (delivered c) (delivered d) t)) (ringing d.state (right (delivered c) (delivered d) t)) in
+        absurd (true_not_false h (ap (λ (v : ℕ). eqb v 1 || (eqb v 2 && eqb opt.alerting 1)) None))
     go (inr t) = t
 
 -- two calls of different references have different legs

@@ -1,10 +1,10 @@
 -- What is decided of a request does not turn on the order of the entries.
+use Rattle.std.specs.Prelude.{None, Option, Some}
 use Prim.Native.Nat.{◌≤◌, ℕ, zero, suc}
 use native.Mathlib.Nat.{le_trans}
 use mathlib.Core.Path.{◌∙◌, ◌≡◌, refl, ap, ap₂}
 use mathlib.Core.Bool.{Bool}
 use mathlib.Core.List.{List}
-use mathlib.Core.Option.{Option, none, some}
 use lib.ListN.{length}
 use lib.IntN.{ℤ}
 use Rattle.board.proofs.SoundEntries.{Sound, refs_one, lids_one, legs_one}
@@ -55,11 +55,11 @@ free_link_same u v h zero z = refl
 free_link_same u v h (suc n) z = ap₂ (λ (b : Bool) (o : Option ℤ). unless_live b z o) (h z) (free_link_same u v h n (next_link_id z))
 
 request_perm : {l m : List Party} → Perm l m → (z : ℤ) (i : IntegerOctets) (o : Option ℤ) → link_id_request z (live l) i o ≡ link_id_request z (live m) i o
-request_perm {l} {m} p z i none =
+request_perm {l} {m} p z i None =
     ap₂ (λ (n : ℕ) (f : Option ℤ). new_link_id n i f)
     (length_perm (filter_map_perm (λ (q : Party). link_id_in q.call.link) p))
     (free_link_same (live l) (live m) (λ y. any_perm (same_integer y) (filter_map_perm (λ (q : Party). link_id_in q.call.link) p)) most_link_ids z)
-request_perm p z i (some y) = refl
+request_perm p z i (Some y) = refl
 
 perform_perm : {l m : List Entry} → Sound l → Perm l m → (opt : Options) (z : ℤ) (p : Party) (i : IntegerOctets) (o : Operation) → perform opt z (calls l) p i o ≡ perform opt z (calls m) p i o
 perform_perm s h opt z p i EctExecute = ap (execute p i) (only_perm (filter_perm (partner_for opt p) (filter_map_perm (λ (e : Entry). party_of e.leg e.connection) h)))
@@ -79,8 +79,8 @@ entry_perm : {l m : List Entry} → Sound l → Perm l m → (n : ℕ) → entry
 entry_perm v h n = find_perm (has_leg n) h (legs_one n v)
 
 service_perm : {l m : List Entry} → Sound l → Perm l m → (opt : Options) (z : ℤ) (c : List ℕ) (o : Option Party) → decide_facility opt z l c o ≡ decide_facility opt z m c o
-service_perm v h opt z c none = refl
-service_perm v h opt z c (some p) = ap (service_decision opt p) (serve_perm v h opt z p (reading c))
+service_perm v h opt z c None = refl
+service_perm v h opt z c (Some p) = ap (service_decision opt p) (serve_perm v h opt z p (reading c))
 
 pub decide_perm : {l m : List Entry} → Sound l → Perm l m → (opt : Options) (z : ℤ) (full : Bool) (q : Request) → decide opt z full l q ≡ decide opt z full m q
 unfolding decide

@@ -1,11 +1,11 @@
 -- Partners: with whom the book has a leg joined after a list of events.
+use Rattle.std.specs.Prelude.{None, Option, Some}
 use Prim.Native.Nat.{ℕ}
 use native.Mathlib.Omega.{arith}
 use mathlib.Core.Path.{◌∙◌, ap, refl, subst, subst⁻¹, ap₂, sym, ◌≡◌}
 use mathlib.Core.Logic.{◌⊎◌, inl, inr}
 use mathlib.Core.Bool.{◌&&◌, ◌||◌, cond, Bool, not, true, false}
 use mathlib.Core.List.{◌++◌, ◌∷◌, List, [], Memᴰ, map}
-use mathlib.Core.Option.{Option, some, none}
 use lib.Dec.{T, eqb, ltb, leb}
 use lib.ListN.{length}
 use lib.IntN.{ℤ}
@@ -36,14 +36,14 @@ use Rattle.events.specs.declared.Refusal.TheVariants as refusal
 
 -- an Open of the leg leaves it joined to nobody
 abbrev pub since : ℕ → Option BoardChange → Option ℕ → Option ℕ
-since l none now = now
-since l (some (Enter p n)) now = cond (eqb l p.leg) none now
-since l (some (Apply c)) now = now
+since l None now = now
+since l (Some (Enter p n)) now = cond (eqb l p.leg) None now
+since l (Some (Apply c)) now = now
 
 -- the first of the two that is there
 abbrev pub first_of : Option ℕ → Option ℕ → Option ℕ
-first_of none o = o
-first_of (some m) o = some m
+first_of None o = o
+first_of (Some m) o = Some m
 
 abbrev pub joins : ℕ → Option BoardChange → Option ℕ → Option ℕ
 joins l c now = first_of (joined_by l c) (since l c now)
@@ -56,38 +56,38 @@ partner_of k now (e ∷ es) l = partner_of (booked k e) (joins l (change_of (boo
 -- ---- what an entry says
 
 abbrev pub Shape : List Entry → ℕ → Option ℕ → Type 0
-Shape es l (some m) = (a : Bool) × Memᴰ (entry l (WithPartner m a)) es
-Shape es l none = (c : Call) × Memᴰ (entry l (WithUser c)) es
+Shape es l (Some m) = (a : Bool) × Memᴰ (entry l (WithPartner m a)) es
+Shape es l None = (c : Call) × Memᴰ (entry l (WithUser c)) es
 
 shape_later : (e : Entry) (es : List Entry) (l : ℕ) (o : Option ℕ) → Shape es l o → Shape (e ∷ es) l o
-shape_later e es l none h = (h.0, Memᴰ.tail h.1)
-shape_later e es l (some m) h = (h.0, Memᴰ.tail h.1)
+shape_later e es l None h = (h.0, Memᴰ.tail h.1)
+shape_later e es l (Some m) h = (h.0, Memᴰ.tail h.1)
 
 shape_call : (r : ℕ) (f : Call → Call) (es : List Entry) (l : ℕ) (o : Option ℕ) → Shape es l o → Shape (map (map_connection (change_call r f)) es) l o
-shape_call r f es l none h = (cond (eqb r h.0.reference.0) (f h.0) h.0, mem_map (map_connection (change_call r f)) h.1)
-shape_call r f es l (some m) h = (h.0, mem_map (map_connection (change_call r f)) h.1)
+shape_call r f es l None h = (cond (eqb r h.0.reference.0) (f h.0) h.0, mem_map (map_connection (change_call r f)) h.1)
+shape_call r f es l (Some m) h = (h.0, mem_map (map_connection (change_call r f)) h.1)
 
 shape_stop : (n : ℕ) (es : List Entry) (l : ℕ) (o : Option ℕ) → Shape es l o → Shape (map (map_connection (end_alerting n)) es) l o
-shape_stop n es l none h = (h.0, mem_map (map_connection (end_alerting n)) h.1)
-shape_stop n es l (some m) h = (h.0 && not (eqb n l), mem_map (map_connection (end_alerting n)) h.1)
+shape_stop n es l None h = (h.0, mem_map (map_connection (end_alerting n)) h.1)
+shape_stop n es l (Some m) h = (h.0 && not (eqb n l), mem_map (map_connection (end_alerting n)) h.1)
 
 shape_filter : (e₀ : Entry) (es : List Entry) (l : ℕ) (o : Option ℕ) → not (eqb l e₀.leg || is_partner l e₀.connection) ≡ true → Shape es l o → Shape (filter (remains e₀) es) l o
-shape_filter e₀ es l none k h = (h.0, mem_filter (remains e₀) h.1 k)
-shape_filter e₀ es l (some m) k h = (h.0, mem_filter (remains e₀) h.1 k)
+shape_filter e₀ es l None k h = (h.0, mem_filter (remains e₀) h.1 k)
+shape_filter e₀ es l (Some m) k h = (h.0, mem_filter (remains e₀) h.1 k)
 
 shape_join : (es : List Entry) (x y : Party) → Memᴰ x (calls es) → Memᴰ y (calls es) → (l : ℕ) (now : Option ℕ) → any (has_leg l) es ≡ true → (any (has_leg l) es ≡ true → Shape es l now) →
-    Shape (map (map_connection (join_legs x.leg y.leg)) es) l (cond (eqb l x.leg) (some y.leg) (cond (eqb l y.leg) (some x.leg) now))
+    Shape (map (map_connection (join_legs x.leg y.leg)) es) l (cond (eqb l x.leg) (Some y.leg) (cond (eqb l y.leg) (Some x.leg) now))
 shape_join es x y mx my l now on inv = go (eqb l x.leg) (eqb l y.leg) refl refl
   where
     g : Entry → Entry
     g = map_connection (join_legs x.leg y.leg)
 
     plain : (o : Option ℕ) → eqb x.leg l ≡ false → eqb y.leg l ≡ false → Shape es l o → Shape (map (map_connection (join_legs x.leg y.leg)) es) l o
-    plain none h k s =
+    plain None h k s =
         (s.0, subst (λ (e : Entry). Memᴰ e (map (map_connection (join_legs x.leg y.leg)) es)) (entry_path refl (ap₂ (λ (a b : Bool). cond a (WithPartner y.leg (delivered s.0)) (cond b (WithPartner x.leg (delivered s.0)) (WithUser s.0))) h k)) (mem_map (map_connection (join_legs x.leg y.leg)) s.1))
-    plain (some m) h k s = (s.0, mem_map (map_connection (join_legs x.leg y.leg)) s.1)
+    plain (Some m) h k s = (s.0, mem_map (map_connection (join_legs x.leg y.leg)) s.1)
 
-    go : (a b : Bool) → eqb l x.leg ≡ a → eqb l y.leg ≡ b → Shape (map (map_connection (join_legs x.leg y.leg)) es) l (cond a (some y.leg) (cond b (some x.leg) now))
+    go : (a b : Bool) → eqb l x.leg ≡ a → eqb l y.leg ≡ b → Shape (map (map_connection (join_legs x.leg y.leg)) es) l (cond a (Some y.leg) (cond b (Some x.leg) now))
     go true b h k = (
       delivered x.call,
       subst (λ (e : Entry). Memᴰ e (map (map_connection (join_legs x.leg y.leg)) es))
@@ -108,10 +108,10 @@ module _ (l : ℕ) (es : List Entry) (now : Option ℕ) (inv : any (has_leg l) e
   Kept d = any (has_leg l) (entries_after (change_of d) es) ≡ true → Shape (entries_after (change_of d) es) l (joins l (change_of d) now)
 
   -- a transfer joins the leg, or leaves it as it was
-  joined_or : (a b : ℕ) → first_of (cond (eqb l a) (some b) (cond (eqb l b) (some a) none)) now ≡ cond (eqb l a) (some b) (cond (eqb l b) (some a) now)
+  joined_or : (a b : ℕ) → first_of (cond (eqb l a) (Some b) (cond (eqb l b) (Some a) None)) now ≡ cond (eqb l a) (Some b) (cond (eqb l b) (Some a) now)
   joined_or a b = go (eqb l a) (eqb l b)
     where
-      go : (x y : Bool) → first_of (cond x (some b) (cond y (some a) none)) now ≡ cond x (some b) (cond y (some a) now)
+      go : (x y : Bool) → first_of (cond x (Some b) (cond y (Some a) None)) now ≡ cond x (Some b) (cond y (Some a) now)
       go true y = refl
       go false true = refl
       go false false = refl
@@ -122,7 +122,7 @@ module _ (l : ℕ) (es : List Entry) (now : Option ℕ) (inv : any (has_leg l) e
   shaped_by (changes_nothing f g h) = inv
   shaped_by (opens_leg_lem {r = r} {l = m} {d = d} e f g) = enter (eqb l m) refl
     where
-      enter : (b : Bool) → eqb l m ≡ b → (b || any (has_leg l) es) ≡ true → Shape (entry m (WithUser (opened r d)) ∷ es) l (cond b none now)
+      enter : (b : Bool) → eqb l m ≡ b → (b || any (has_leg l) es) ≡ true → Shape (entry m (WithUser (opened r d)) ∷ es) l (cond b None now)
       enter true k h = (opened r d, Memᴰ.head (entry_path (eqb_eq l m k) refl))
       enter false k h = shape_later (entry m (WithUser (opened r d))) es l now (inv h)
   shaped_by (sets_state {r = r} {s = t} e k) = λ h. shape_call r (with_state t) es l now (inv (sym (any_map (has_leg l) (map_connection (change_call r (with_state t))) es) ∙ h))
@@ -160,10 +160,10 @@ shaped_list k (e ∷ es) l now inv = shaped_list (booked k e) es l _ (shaped_nex
 pub has_row : {b : Board} {k : Book} → Together b k → (l : ℕ) (t : Connection) → Memᴰ (entry l t) (taken b.rows) → HasRow b l t
 has_row {b} t l u m = small_one (filter (has_leg l) (taken b.rows)) (legs_one l t.entries_are) (mem_filter (has_leg l) m (eqb_self l))
 
-pub call_row : {b : Board} {k : Book} → Together b k → (l : ℕ) → Shape k.entries l none → (c : Call) × HasRow b l (WithUser c)
+pub call_row : {b : Board} {k : Book} → Together b k → (l : ℕ) → Shape k.entries l None → (c : Call) × HasRow b l (WithUser c)
 call_row t l h = (h.0, has_row t l (WithUser h.0) (mem_perm (p_sym t.order) h.1))
 
-pub partner_rows : {b : Board} {k : Book} → Together b k → (l m : ℕ) → Shape k.entries l (some m) → Partners b l m
+pub partner_rows : {b : Board} {k : Book} → Together b k → (l m : ℕ) → Shape k.entries l (Some m) → Partners b l m
 partner_rows t l m h =
     let here = mem_perm (p_sym t.order) h.1 in
     let r = mate_of t.entries_are l m h.0 here in
@@ -172,24 +172,24 @@ partner_rows t l m h =
 -- ---- what a transfer since does
 
 pub shape_there : (es : List Entry) (l : ℕ) (o : Option ℕ) → Shape es l o → any (has_leg l) es ≡ true
-shape_there es l none h = any_of (has_leg l) h.1 (eqb_self l)
-shape_there es l (some m) h = any_of (has_leg l) h.1 (eqb_self l)
+shape_there es l None h = any_of (has_leg l) h.1 (eqb_self l)
+shape_there es l (Some m) h = any_of (has_leg l) h.1 (eqb_self l)
 
 -- a transfer joins, whatever there was before
-pub joins_some : (l m : ℕ) (now : Option ℕ) (c : Option BoardChange) → joined_by l c ≡ some m → joins l c now ≡ some m
+pub joins_some : (l m : ℕ) (now : Option ℕ) (c : Option BoardChange) → joined_by l c ≡ Some m → joins l c now ≡ Some m
 joins_some l m now c h = ap (λ (o : Option ℕ). first_of o (since l c now)) h
 
-since_none : (l : ℕ) (c : Option BoardChange) → since l c none ≡ none
-since_none l none = refl
-since_none l (some (Enter p n)) = go (eqb l p.leg)
+since_none : (l : ℕ) (c : Option BoardChange) → since l c None ≡ None
+since_none l None = refl
+since_none l (Some (Enter p n)) = go (eqb l p.leg)
   where
-    go : (b : Bool) → cond {A = Option ℕ} b none none ≡ none
+    go : (b : Bool) → cond {A = Option ℕ} b None None ≡ None
     go true = refl
     go false = refl
-since_none l (some (Apply c)) = refl
+since_none l (Some (Apply c)) = refl
 
-joins_none : (l : ℕ) (c : Option BoardChange) → joined_by l c ≡ none → joins l c none ≡ none
-joins_none l c h = ap (λ (o : Option ℕ). first_of o (since l c none)) h ∙ since_none l c
+joins_none : (l : ℕ) (c : Option BoardChange) → joined_by l c ≡ None → joins l c None ≡ None
+joins_none l c h = ap (λ (o : Option ℕ). first_of o (since l c None)) h ∙ since_none l c
 
 -- a joined leg is joined to nobody else, and is not opened
 module _ (l m : ℕ) (a₀ : Bool) (es : List Entry) (s : Sound es) (here : Memᴰ (entry l (WithPartner m a₀)) es) where
@@ -203,39 +203,39 @@ module _ (l m : ℕ) (a₀ : Bool) (es : List Entry) (s : Sound es) (here : Mem�
           let z : ◌≡◌ {A = ℕ} 0 1 = cc in absurd (omega arith)
       go (inr t) = t
 
-  release_fixed : (n : ℕ) (t : Connection) → first_of (joins_to l (release_of n t)) (some m) ≡ some m
+  release_fixed : (n : ℕ) (t : Connection) → first_of (joins_to l (release_of n t)) (Some m) ≡ Some m
   release_fixed n (WithUser c) = refl
   release_fixed n (WithPartner p a) = refl
 
-  joins_fixed : {opt : Options} {z : ℤ} {w : Bool} {q : Request} {d : Decision} → Decided opt z w es q d → joins l (change_of d) (some m) ≡ some m
+  joins_fixed : {opt : Options} {z : ℤ} {w : Bool} {q : Request} {d : Decision} → Decided opt z w es q d → joins l (change_of d) (Some m) ≡ Some m
   joins_fixed (refuses c) = refl
   joins_fixed (changes_nothing f g h) = refl
   joins_fixed (opens_leg_lem {l = n} e f g) = other (eqb l n) refl
     where
-      other : (b : Bool) → eqb l n ≡ b → cond b none (some m) ≡ some m
+      other : (b : Bool) → eqb l n ≡ b → cond b None (Some m) ≡ Some m
       other true h = absurd (true_not_false (any_of (has_leg n) here (eqb_sym n l ∙ h)) e)
       other false h = refl
   joins_fixed (sets_state e h) = refl
   joins_fixed (sets_auxiliary e h) = refl
   joins_fixed (releases {e = e} n h) = release_fixed e.leg e.connection
   joins_fixed (assigns_link_id i n e h) = refl
-  joins_fixed (transfers {p = p} {o = q} i n k h) = ap₂ (λ (x y : Bool). first_of (cond x (some q.leg) (cond y (some p.leg) none)) (some m)) (no_call p n) (no_call q k)
+  joins_fixed (transfers {p = p} {o = q} i n k h) = ap₂ (λ (x y : Bool). first_of (cond x (Some q.leg) (cond y (Some p.leg) None)) (Some m)) (no_call p n) (no_call q k)
   joins_fixed ends_alerting = refl
 
-fixed_next : (k : Book) → Sound k.entries → (e : Event) (l m : ℕ) → Shape k.entries l (some m) → joins l (change_of (book_decision k e.octets e.room)) (some m) ≡ some m
+fixed_next : (k : Book) → Sound k.entries → (e : Event) (l m : ℕ) → Shape k.entries l (Some m) → joins l (change_of (book_decision k e.octets e.room)) (Some m) ≡ Some m
 unfolding book_decision book_rules
 fixed_next k s e l m h = go (ltb e.room 128)
   where
-    go : (x : Bool) → joins l (change_of (cond x (Refuse refusal.BufferTooSmall) (book_rules k e.octets))) (some m) ≡ some m
+    go : (x : Bool) → joins l (change_of (cond x (Refuse refusal.BufferTooSmall) (book_rules k e.octets))) (Some m) ≡ Some m
     go true = refl
     go false = joins_fixed l m h.0 k.entries s h.1 (decided k.options k.candidate (leb 64 (length k.entries)) k.entries (request e.octets))
 
 -- an accepted Open of the leg leaves it joined to nobody
 opened_none : {opt : Options} {z : ℤ} {w : Bool} {es : List Entry} {q : Request} {d : Decision} (l : ℕ) (now : Option ℕ) → Decided opt z w es q d → eqb (returned_by d) 0 ≡ true → opens_leg l q ≡ true →
-    joins l (change_of d) now ≡ none
+    joins l (change_of d) now ≡ None
 opened_none l now (refuses c) h k = absurd (true_not_false h (refusal_not_0 c))
 opened_none l now (changes_nothing f g s) h k = absurd (true_not_false k (f l))
-opened_none l now (opens_leg_lem {l = m} e f g) h k = ap (λ (b : Bool). cond b none now) k
+opened_none l now (opens_leg_lem {l = m} e f g) h k = ap (λ (b : Bool). cond b None now) k
 opened_none l now (sets_state e f) h k = absurd (true_not_false k refl)
 opened_none l now (sets_auxiliary e f) h k = absurd (true_not_false k refl)
 opened_none l now (releases m f) h k = absurd (true_not_false k refl)
@@ -243,11 +243,11 @@ opened_none l now (assigns_link_id i m e f) h k = absurd (true_not_false k refl)
 opened_none l now (transfers i m n f) h k = absurd (true_not_false k refl)
 opened_none l now ends_alerting h k = absurd (true_not_false k refl)
 
-pub opened_next : (k : Book) (e : Event) (l : ℕ) (now : Option ℕ) → opens_at k e l ≡ true → joins l (change_of (book_decision k e.octets e.room)) now ≡ none
+pub opened_next : (k : Book) (e : Event) (l : ℕ) (now : Option ℕ) → opens_at k e l ≡ true → joins l (change_of (book_decision k e.octets e.room)) now ≡ None
 unfolding opens_at book_decision book_rules
 opened_next k e l now h = go (ltb e.room 128) h
   where
-    go : (x : Bool) → (eqb (returned_by (cond x (Refuse refusal.BufferTooSmall) (book_rules k e.octets))) 0 && opens_leg l (request e.octets)) ≡ true → joins l (change_of (cond x (Refuse refusal.BufferTooSmall) (book_rules k e.octets))) now ≡ none
+    go : (x : Bool) → (eqb (returned_by (cond x (Refuse refusal.BufferTooSmall) (book_rules k e.octets))) 0 && opens_leg l (request e.octets)) ≡ true → joins l (change_of (cond x (Refuse refusal.BufferTooSmall) (book_rules k e.octets))) now ≡ None
     go true k = absurd (true_not_false k refl)
     go false h =
         opened_none l now (decided k.options k.candidate (leb 64 (length k.entries)) k.entries (request e.octets))
@@ -257,25 +257,25 @@ opened_next k e l now h = go (ltb e.room 128) h
 pub still_there : {b : Board} {k : Book} → Together b k → (e : Event) (l : ℕ) → any (has_leg l) k.entries ≡ true → T (not (ends_at k e l)) → any (has_leg l) (booked k e).entries ≡ true
 still_there {b} {k} t e l h n = seen_next k (together_sound t) e l ∙ or_right (opens_at k e l) _ (both h (is_true _ n))
 
-pub joined_stays : {b : Board} {k : Book} → Together b k → (list : List Event) (l m : ℕ) → Shape k.entries l (some m) → Unended k list l → Shape (book_at k list).entries l (some m)
+pub joined_stays : {b : Board} {k : Book} → Together b k → (list : List Event) (l m : ℕ) → Shape k.entries l (Some m) → Unended k list l → Shape (book_at k list).entries l (Some m)
 unfolding book_at book_step
 joined_stays {b} {k} t [] l m h f = h
 joined_stays {b} {k} t (e ∷ es) l m h f =
     let r = unended_head k e es l f in
     joined_stays {b = (stepped b e).board} {k = booked k e} (next t e).together es l m
     (subst (λ (o : Option ℕ). Shape (booked k e).entries l o) (fixed_next k (together_sound t) e l m h)
-    (shaped_next k e l (some m) (λ _. h) (still_there t e l (shape_there k.entries l (some m) h) r.0)))
+    (shaped_next k e l (Some m) (λ _. h) (still_there t e l (shape_there k.entries l (Some m) h) r.0)))
     r.1
 
-pub call_stays : {b : Board} {k : Book} → Together b k → (list : List Event) (l : ℕ) → Shape k.entries l none → Unended k list l →
-    ((mid rest : List Event) (e : Event) → list ≡ mid ++ (e ∷ rest) → transfer_of (book_at k mid) e l ≡ none) → Shape (book_at k list).entries l none
+pub call_stays : {b : Board} {k : Book} → Together b k → (list : List Event) (l : ℕ) → Shape k.entries l None → Unended k list l →
+    ((mid rest : List Event) (e : Event) → list ≡ mid ++ (e ∷ rest) → transfer_of (book_at k mid) e l ≡ None) → Shape (book_at k list).entries l None
 unfolding book_at book_step transfer_of
 call_stays {b} {k} t [] l h f g = h
 call_stays {b} {k} t (e ∷ es) l h f g =
     let r = unended_head k e es l f in
     call_stays {b = (stepped b e).board} {k = booked k e} (next t e).together es l
     (subst (λ (o : Option ℕ). Shape (booked k e).entries l o) (joins_none l (change_of (book_decision k e.octets e.room)) (g [] es e refl))
-    (shaped_next k e l none (λ _. h) (still_there t e l (shape_there k.entries l none h) r.0)))
+    (shaped_next k e l None (λ _. h) (still_there t e l (shape_there k.entries l None h) r.0)))
     r.1
     (λ mid rest x p. g (e ∷ mid) rest x (ap {B = List Event} (λ q. e ∷ q) p))
 

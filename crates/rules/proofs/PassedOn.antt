@@ -1,11 +1,11 @@
 -- A Leg facility: accepted exactly when the checks are passed, then passed on to the partner; the board stays, and nobody is moved.
+use Rattle.std.specs.Prelude.{None, Option, Some}
 use Prim.Native.Nat.{ℕ, ◌<◌}
 use native.Mathlib.Omega.{arith}
 use borrow.Author.Tests.{ltb-true, ltb-false, eqb-true, eqb-false, eq-eqb}
 use mathlib.Core.Path.{◌≡◌, refl, sym, ap, ◌∙◌}
 use mathlib.Core.Bool.{Bool, true, false, not, cond}
 use mathlib.Core.List.{List, [], ◌∷◌, ◌++◌, append-nil}
-use mathlib.Core.Option.{Option, none, some}
 use lib.Dec.{eqb, leb, ltb, T}
 use lib.Seq.{drop-cons}
 use lib.ListN.{length, drop, length-drop}
@@ -39,11 +39,11 @@ sound_entries_lem : (b : Board) → sound b ≡ true → Sound (taken b.rows)
 unfolding sound sound_rows
 sound_entries_lem b s = sound_of (taken b.rows) (right (all valid_row b.rows) (sound_entries (taken b.rows)) (right (valid_options b.options) _ s))
 
-row_entry_lem : (b : Board) (l : ℕ) (t : Connection) → HasRow b l t → entry_at l (taken b.rows) ≡ some (entry l t)
+row_entry_lem : (b : Board) (l : ℕ) (t : Connection) → HasRow b l t → entry_at l (taken b.rows) ≡ Some (entry l t)
 unfolding head_of
 row_entry_lem b l t h = find_filter (has_leg l) (taken b.rows) ∙ ap head_of h
 
-entry_row : (b : Board) (l : ℕ) {e : Entry} → sound b ≡ true → entry_at l (taken b.rows) ≡ some e → HasRow b l e.connection
+entry_row : (b : Board) (l : ℕ) {e : Entry} → sound b ≡ true → entry_at l (taken b.rows) ≡ Some e → HasRow b l e.connection
 entry_row b l {e} s h =
     let m = find_mem (has_leg l) (taken b.rows) h in
     let r = small_one (filter (has_leg l) (taken b.rows)) (legs_one l (sound_entries_lem b s)) (mem_filter (has_leg l) m.0 m.1) in
@@ -73,7 +73,7 @@ module _ (b : Board) (body : List ℕ) (room : ℕ) where
   }
 
   -- 10
-  absent : entry_at (leg_in body) (taken b.rows) ≡ none → Holds (refused 10 b)
+  absent : entry_at (leg_in body) (taken b.rows) ≡ None → Holds (refused 10 b)
   unfolding octets Holds
   absent h = record {
     accepted = (λ e. absurd (omega (arith, e)), λ j. absurd (no_row j.1.1.joined));
@@ -86,7 +86,7 @@ module _ (b : Board) (body : List ℕ) (room : ℕ) where
   }
     where
       no_row : {t : Connection} → HasRow b (leg_in body) t → ⊥
-      no_row {t} r = let q : none ≡ some (entry (leg_in body) t) = sym h ∙ row_entry_lem b (leg_in body) t r in let z : ◌≡◌ {A = ℕ} 0 1 = cc in omega arith
+      no_row {t} r = let q : None ≡ Some (entry (leg_in body) t) = sym h ∙ row_entry_lem b (leg_in body) t r in let z : ◌≡◌ {A = ℕ} 0 1 = cc in omega arith
 
   -- the leg's row, the only one of the leg, has this connection
   module _ (t : Connection) (r : HasRow b (leg_in body) t) where
@@ -141,7 +141,7 @@ module _ (b : Board) (body : List ℕ) (room : ℕ) where
         ∙ ap (λ (x : List ℕ). 0x85 ∷ (four p ++ x)) (sym (drop-cons body 4 0 (omega (arith, l))))
         ∙ ap (λ (x : ℕ). 0x85 ∷ (four x ++ drop 4 body)) f
 
-    passing : Judged b body room → is_subaddress_transfer (component_in body) ≡ true → Holds (done b (Accept none (passed_on_record p (count_in body) (drop 5 body))))
+    passing : Judged b body room → is_subaddress_transfer (component_in body) ≡ true → Holds (done b (Accept None (passed_on_record p (count_in body) (drop 5 body))))
     unfolding Holds board_after rows_after candidate_after replies
     passing j t = record {
       accepted = (λ e. (j, (p, record { alerts = a; joined = r; invoke = from_true t })), λ k. refl);
@@ -158,14 +158,14 @@ module _ (b : Board) (body : List ℕ) (room : ℕ) where
   connected j (WithUser c) r = served c r
   connected j (WithPartner p a) r = go (is_subaddress_transfer (component_in body)) refl
     where
-      go : (x : Bool) → is_subaddress_transfer (component_in body) ≡ x → Holds (done b (cond x (Accept none (passed_on_record p (count_in body) (drop 5 body))) (Refuse refusal.NoSuchInvoke)))
+      go : (x : Bool) → is_subaddress_transfer (component_in body) ≡ x → Holds (done b (cond x (Accept None (passed_on_record p (count_in body) (drop 5 body))) (Refuse refusal.NoSuchInvoke)))
       go true t = passing p a r j t
       go false t = other_component p a r t
 
   entered : Judged b body room → (o : Option Entry) → entry_at (leg_in body) (taken b.rows) ≡ o → Holds (done b (decide_leg_facility (count_in body) (drop 5 body) o))
   unfolding board_after rows_after candidate_after replies
-  entered j none e = absent e
-  entered j (some x) e = connected j x.connection (entry_row b (leg_in body) (is_true _ j.sound_board) e)
+  entered j None e = absent e
+  entered j (Some x) e = connected j x.connection (entry_row b (leg_in body) (is_true _ j.sound_board) e)
 
   ranged_is : Judged b body room → in_range (LegFacility (leg_in body) (count_in body) (drop 5 body)) ≡ true
   ranged_is j = both (eq-eqb (length (drop 5 body)) 64 (omega (arith, length-drop 5 body, j.long))) (is_true _ j.is_in_range)
@@ -188,23 +188,23 @@ module _ (b : Board) (body : List ℕ) (room : ℕ) where
 -- ---- nobody is opened, ended or joined
 
 module _ (k : Book) (body : List ℕ) (room : ℕ) where
-  changes_none : change_of (book_decision k (7 ∷ body) room) ≡ none
+  changes_none : change_of (book_decision k (7 ∷ body) room) ≡ None
   unfolding book_decision book_rules request decide
   changes_none = go (ltb room 128) (eqb (length body) 69) (in_range (LegFacility (leg_in body) (count_in body) (drop 5 body)))
     where
-      connected_none : (t : Connection) → change_of (decide_passing (count_in body) (drop 5 body) t) ≡ none
+      connected_none : (t : Connection) → change_of (decide_passing (count_in body) (drop 5 body) t) ≡ None
       connected_none (WithUser c) = refl
       connected_none (WithPartner p a) = either (is_subaddress_transfer (component_in body))
         where
-          either : (x : Bool) → change_of (cond x (Accept none (passed_on_record p (count_in body) (drop 5 body))) (Refuse refusal.NoSuchInvoke)) ≡ none
+          either : (x : Bool) → change_of (cond x (Accept None (passed_on_record p (count_in body) (drop 5 body))) (Refuse refusal.NoSuchInvoke)) ≡ None
           either true = refl
           either false = refl
 
-      entered_none : (o : Option Entry) → change_of (decide_leg_facility (count_in body) (drop 5 body) o) ≡ none
-      entered_none none = refl
-      entered_none (some e) = connected_none e.connection
+      entered_none : (o : Option Entry) → change_of (decide_leg_facility (count_in body) (drop 5 body) o) ≡ None
+      entered_none None = refl
+      entered_none (Some e) = connected_none e.connection
 
-      go : (x z w : Bool) → change_of (cond x (Refuse refusal.BufferTooSmall) (decide k.options k.candidate (leb 64 (length k.entries)) k.entries (asked body z w))) ≡ none
+      go : (x z w : Bool) → change_of (cond x (Refuse refusal.BufferTooSmall) (decide k.options k.candidate (leb 64 (length k.entries)) k.entries (asked body z w))) ≡ None
       go true z w = refl
       go false false w = refl
       go false true false = refl

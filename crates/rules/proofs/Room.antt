@@ -1,10 +1,10 @@
 -- An event writes at most 92 octets, so what it writes fits the 128 that are asked for.
+use Rattle.std.specs.Prelude.{None, Option, Some}
 use Prim.Native.Nat.{◌≤◌, ℕ, zero-le}
 use native.Mathlib.Omega.{arith}
 use mathlib.Core.Path.{◌≡◌, refl}
 use mathlib.Core.Bool.{◌&&◌, true, false, Bool, cond}
 use mathlib.Core.List.{List}
-use mathlib.Core.Option.{Option, none, some}
 use lib.Dec.{eqb, leb, ltb}
 use lib.IntN.{ℤ}
 use lib.ListN.{length}
@@ -58,8 +58,8 @@ number_length rows k l = go (find at_leg rows) refl
     chosen false false r h = h
 
     go : (o : Option Row) → find at_leg rows ≡ o → length (number_of_row o).digits ≡ 15
-    go none e = refl
-    go (some r) e =
+    go None e = refl
+    go (Some r) e =
         let f = find_mem at_leg rows e in
         chosen (eqb r.number.count 0) (eqb r.number.presentation 1) r.number
         (row_digits r.leg r.number r.standing (right (eqb l r.leg) (occupied r.standing) f.1) (all_at valid_row f.0 k))

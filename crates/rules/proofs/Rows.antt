@@ -1,11 +1,10 @@
 -- The rows after an event, read as entries, are the entries after it.
+use Rattle.std.specs.Prelude.{None, Option, Some, option_map}
 use Prim.Native.Nat.{◌≤◌, ℕ, zero-le, suc, suc-le-suc}
 use native.Mathlib.Nat.{le_step}
 use mathlib.Core.Path.{◌∙◌, ◌≡◌, ap, refl, ap₂, sym}
 use mathlib.Core.Bool.{◌||◌, Bool, cond, true, false, not}
 use mathlib.Core.List.{◌∷◌, map, List, []}
-use mathlib.Core.Option
-use mathlib.Core.Option.{Option, none, some}
 use lib.Dec.{eqb, leb, leb-suc-suc}
 use lib.Arith.{lt→nleb}
 use lib.ListN.{length, length-map}
@@ -37,34 +36,34 @@ use Rattle.board.specs.declared.Change.TheVariants as change
 
 -- ---- rows read as entries
 
-taken_map : (f : Row → Row) (g : Entry → Entry) → ((r : Row) → row_entry (f r) ≡ Option.map g (row_entry r)) → (rows : List Row) → taken (map f rows) ≡ map g (taken rows)
+taken_map : (f : Row → Row) (g : Entry → Entry) → ((r : Row) → row_entry (f r) ≡ option_map g (row_entry r)) → (rows : List Row) → taken (map f rows) ≡ map g (taken rows)
 taken_map f g h [] = refl
 taken_map f g h (r ∷ rs) = ap₂ cons_opt (h r) (taken_map f g h rs) ∙ go (row_entry r)
   where
-    go : (o : Option Entry) → cons_opt (Option.map g o) (map g (taken rs)) ≡ map g (cons_opt o (taken rs))
-    go none = refl
-    go (some e) = refl
+    go : (o : Option Entry) → cons_opt (option_map g o) (map g (taken rs)) ≡ map g (cons_opt o (taken rs))
+    go None = refl
+    go (Some e) = refl
 
 taken_filter : (f : Row → Row) (p : Entry → Bool) → ((r : Row) (l : List Entry) → cons_opt (row_entry (f r)) (filter p l) ≡ filter p (cons_opt (row_entry r) l)) → (rows : List Row) → taken (map f rows) ≡ filter p (taken rows)
 taken_filter f p h [] = refl
 taken_filter f p h (r ∷ rs) = ap (cons_opt (row_entry (f r))) (taken_filter f p h rs) ∙ h r (taken rs)
 
-call_shown : (r : CallReference) (f : Call → Call) (n : ℕ) (t : Standing) → entry_of n (changed_call r f n t) ≡ Option.map (map_connection (change_call r.0 f)) (entry_of n t)
+call_shown : (r : CallReference) (f : Call → Call) (n : ℕ) (t : Standing) → entry_of n (changed_call r f n t) ≡ option_map (map_connection (change_call r.0 f)) (entry_of n t)
 call_shown r f n Empty = refl
 call_shown r f n (Served c) = refl
 call_shown r f n (Joined p a) = refl
 
-join_shown : (a b n : ℕ) (t : Standing) → entry_of n (joined a b n t) ≡ Option.map (map_connection (join_legs a b)) (entry_of n t)
+join_shown : (a b n : ℕ) (t : Standing) → entry_of n (joined a b n t) ≡ option_map (map_connection (join_legs a b)) (entry_of n t)
 join_shown a b n Empty = refl
 join_shown a b n (Served c) = go (eqb a n) (eqb b n)
   where
-    go : (x y : Bool) → entry_of n (cond x (Joined b (delivered c)) (cond y (Joined a (delivered c)) (Served c))) ≡ some (record { leg = n; connection = cond x (WithPartner b (delivered c)) (cond y (WithPartner a (delivered c)) (WithUser c)) })
+    go : (x y : Bool) → entry_of n (cond x (Joined b (delivered c)) (cond y (Joined a (delivered c)) (Served c))) ≡ Some (record { leg = n; connection = cond x (WithPartner b (delivered c)) (cond y (WithPartner a (delivered c)) (WithUser c)) })
     go true y = refl
     go false true = refl
     go false false = refl
 join_shown a b n (Joined p x) = refl
 
-stop_shown : (l n : ℕ) (t : Standing) → entry_of n (alerting_ended l n t) ≡ Option.map (map_connection (end_alerting l)) (entry_of n t)
+stop_shown : (l n : ℕ) (t : Standing) → entry_of n (alerting_ended l n t) ≡ option_map (map_connection (end_alerting l)) (entry_of n t)
 stop_shown l n Empty = refl
 stop_shown l n (Served c) = refl
 stop_shown l n (Joined p a) = refl
@@ -99,9 +98,9 @@ change_view (change.SetLinkId r l) rows = taken_map _ _ (λ x. call_shown r (wit
 change_view (change.Join a b) rows = taken_map _ _ (λ x. join_shown a b x.leg x.standing) rows
 change_view (change.EndAlerting l) rows = taken_map _ _ (λ x. stop_shown l x.leg x.standing) rows
 change_view (change.Release l) rows =
-    taken_filter (row_after (change.Release l)) (stays l none) (λ r es. emptied_shown l none r (eqb r.leg l) (ap not (or_none (eqb r.leg l))) es) rows
+    taken_filter (row_after (change.Release l)) (stays l None) (λ r es. emptied_shown l None r (eqb r.leg l) (ap not (or_none (eqb r.leg l))) es) rows
 change_view (change.ReleasePair l p) rows =
-    taken_filter (row_after (change.ReleasePair l p)) (stays l (some p)) (λ r es. emptied_shown l (some p) r (eqb r.leg l || eqb r.leg p) refl es) rows
+    taken_filter (row_after (change.ReleasePair l p)) (stays l (Some p)) (λ r es. emptied_shown l (Some p) r (eqb r.leg l || eqb r.leg p) refl es) rows
 
 enter_shown : (new : Row) (c : Call) (rows : List Row) → new.standing ≡ Served c → full rows ≡ false → Perm (taken (enter new rows)) (record { leg = new.leg; connection = WithUser c } ∷ taken rows)
 enter_shown new c [] h k = absurd (true_not_false refl k)
@@ -126,8 +125,8 @@ taken_le [] = zero-le
 taken_le (r ∷ rs) = go (row_entry r) (taken_le rs)
   where
     go : (o : Option Entry) → length (taken rs) ≤ length rs → length (cons_opt o (taken rs)) ≤ suc (length rs)
-    go none h = le_step h
-    go (some e) h = suc-le-suc h
+    go None h = le_step h
+    go (Some e) h = suc-le-suc h
 
 pub full_is : (rows : List Row) → full rows ≡ leb (length rows) (length (taken rows))
 full_is [] = refl
@@ -145,9 +144,9 @@ full_is (r ∷ rs) = go r.standing (full_is rs)
 -- ---- what is entered is in range, and there is room for it
 
 abbrev pub Fine : Bool → Option BoardChange → Type 0
-Fine w none = Unit {0}
-Fine w (some (Enter p n)) = (w ≡ false) × (valid_number n ≡ true)
-Fine w (some (Apply c)) = Unit {0}
+Fine w None = Unit {0}
+Fine w (Some (Enter p n)) = (w ≡ false) × (valid_number n ≡ true)
+Fine w (Some (Apply c)) = Unit {0}
 
 fine_by : {opt : Options} {z : ℤ} {w : Bool} {es : List Entry} {q : Request} {d : Decision} → in_range q ≡ true → Decided opt z w es q d → Fine w (change_of d)
 fine_by h (refuses c) = tt
@@ -167,9 +166,9 @@ fine opt z w es q h = fine_by h (decided opt z w es q)
 
 pub view : (c : Option BoardChange) (rows : List Row) → Fine (full rows) c → Perm (taken (rows_after c rows)) (entries_after c (taken rows))
 unfolding rows_after entries_after
-view none rows h = p_refl (taken rows)
-view (some (Enter p n)) rows h = enter_shown (entered_row p n) p.call rows refl h.0
-view (some (Apply c)) rows h = p_of (change_view c rows)
+view None rows h = p_refl (taken rows)
+view (Some (Enter p n)) rows h = enter_shown (entered_row p n) p.call rows refl h.0
+view (Some (Apply c)) rows h = p_of (change_view c rows)
 
 change_perm : (c : Change) {l m : List Entry} → Perm l m → Perm (changed_entries c l) (changed_entries c m)
 change_perm (change.SetState r s) h = map_perm (map_connection (change_call r.0 (with_state s))) h
@@ -177,22 +176,22 @@ change_perm (change.SetAuxiliary r a) h = map_perm (map_connection (change_call 
 change_perm (change.SetLinkId r z) h = map_perm (map_connection (change_call r.0 (with_link_id z))) h
 change_perm (change.Join a b) h = map_perm (map_connection (join_legs a b)) h
 change_perm (change.EndAlerting l) h = map_perm (map_connection (end_alerting l)) h
-change_perm (change.Release l) h = filter_perm (stays l none) h
-change_perm (change.ReleasePair l p) h = filter_perm (stays l (some p)) h
+change_perm (change.Release l) h = filter_perm (stays l None) h
+change_perm (change.ReleasePair l p) h = filter_perm (stays l (Some p)) h
 
 pub after_perm : (c : Option BoardChange) {l m : List Entry} → Perm l m → Perm (entries_after c l) (entries_after c m)
 unfolding entries_after
-after_perm none h = h
-after_perm (some (Enter p n)) h = p_skip h
-after_perm (some (Apply c)) h = change_perm c h
+after_perm None h = h
+after_perm (Some (Enter p n)) h = p_skip h
+after_perm (Some (Apply c)) h = change_perm c h
 
 pub candidate_same : (c : Option BoardChange) (z : LinkId) → (candidate_after c z).0 ≡ candidate_moves c z.0
 unfolding candidate_after candidate_moves
 candidate_same c z = go (new_link_id_of c)
   where
     go : (o : Option LinkId) → (candidate_by o z).0 ≡ moved_by o z.0
-    go none = refl
-    go (some l) = refl
+    go None = refl
+    go (Some l) = refl
 
 -- ---- 64 rows stay 64 rows
 
@@ -206,9 +205,9 @@ enter_length new (r ∷ rs) = go (occupied r.standing) (enter_length new rs)
 
 pub rows_length : (c : Option BoardChange) (rows : List Row) → length (rows_after c rows) ≡ length rows
 unfolding rows_after changed_rows
-rows_length none rows = refl
-rows_length (some (Enter p n)) rows = enter_length _ rows
-rows_length (some (Apply c)) rows = length-map rows _
+rows_length None rows = refl
+rows_length (Some (Enter p n)) rows = enter_length _ rows
+rows_length (Some (Apply c)) rows = length-map rows _
 
 -- ---- the rows' own fields stay right
 
@@ -269,6 +268,6 @@ change_right (change.ReleasePair l p) rows k = emptied_right (λ (r : Row). eqb 
 
 pub rows_right : (w : Bool) (c : Option BoardChange) (rows : List Row) → Fine w c → all valid_row rows ≡ true → all valid_row (rows_after c rows) ≡ true
 unfolding rows_after valid_row
-rows_right w none rows h k = k
-rows_right w (some (Enter p n)) rows h k = enter_right (entered_row p n) rows h.1 k
-rows_right w (some (Apply c)) rows h k = change_right c rows k
+rows_right w None rows h k = k
+rows_right w (Some (Enter p n)) rows h k = enter_right (entered_row p n) rows h.1 k
+rows_right w (Some (Apply c)) rows h k = change_right c rows k

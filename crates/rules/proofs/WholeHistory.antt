@@ -1,18 +1,17 @@
 -- The whole-history theorem: demand 3, for all option octets and all lists of events.
+use Rattle.std.specs.Prelude.{None, Option, Some}
 use Prim.Native.Nat.{ℕ}
 use mathlib.Core.Path.{◌∙◌, ◌≡◌, refl, ap, sym, subst, subst⁻¹}
 use mathlib.Core.Logic.{◌↔◌, ◌⊎◌, inl, inr}
 use mathlib.Core.Bool.{◌&&◌, false, true, not, Bool, cond}
 use mathlib.Core.List.{◌++◌, ◌∷◌, List, [], append_assoc}
-use mathlib.Core.Option.{Option, some, none}
 use lib.Dec.{eqb, T}
 use Rattle.board.specs.declared.Connection.TheVariants.{WithUser}
 use Rattle.board.specs.Entries.{has_leg}
-use Rattle.board.specs.Making.{options, empty_board, making_refused, fresh}
+use Rattle.board.specs.Making.{Made, options, empty_board, making_refused, fresh}
 use Rattle.board.specs.Soundness.{valid_options}
 use Rattle.board.specs.declared.Board.{Board}
 use Rattle.board.specs.declared.Call.{Call}
-use Rattle.board.specs.declared.Made.{Made}
 use Rattle.board.specs.declared.Options.{Options}
 use Rattle.rules.proofs.Agreement.{Together, next, played_together, empty_together, same_returns, sound_together}
 use Rattle.rules.proofs.Errors.{untouched_step, unharmed, octets_error}
@@ -135,7 +134,7 @@ agree {b} {k} t = record {
   no_other = λ e m. mem_perm t.order m;
 }
 
-transfer_is : (k : Book) (e : Event) (l m : ℕ) → transfer_of k e l ≡ some m → joined_by l (change_of (book_decision k e.octets e.room)) ≡ some m
+transfer_is : (k : Book) (e : Event) (l m : ℕ) → transfer_of k e l ≡ Some m → joined_by l (change_of (book_decision k e.octets e.room)) ≡ Some m
 unfolding transfer_of
 transfer_is k e l m h = h
 
@@ -148,8 +147,8 @@ module _ (b₀ : Board) (k₀ : Book) (t₀ : Together b₀ k₀) (no-entries : 
   empty l = ap (any (has_leg l)) (no-entries)
 
   -- the leg's entry is as the fold over the list says
-  shape_at : (list : List Event) (l : ℕ) → any (has_leg l) (book_at k₀ list).entries ≡ true → Shape (book_at k₀ list).entries l (partner_of k₀ none list l)
-  shape_at list l = shaped_list k₀ list l none (λ k. absurd (true_not_false k (empty l)))
+  shape_at : (list : List Event) (l : ℕ) → any (has_leg l) (book_at k₀ list).entries ≡ true → Shape (book_at k₀ list).entries l (partner_of k₀ None list l)
+  shape_at list l = shaped_list k₀ list l None (λ k. absurd (true_not_false k (empty l)))
 
   there : (list : List Event) (l : ℕ) → LivesIn k₀ list l → any (has_leg l) (book_at k₀ list).entries ≡ true
   there list l v = lives_is t₀ false list l (empty l) ∙ lives_from k₀ false list v.before v.opener v.since l v.place v.opened v.not_ended
@@ -170,27 +169,27 @@ module _ (b₀ : Board) (k₀ : Book) (t₀ : Together b₀ k₀) (no-entries : 
     unended_since : Unended (booked (book_at k₀ before) opener) since l
     unended_since mid rest e p = subst (λ (k : Book). T (not (ends_at k e l))) (at_mid mid) (unended mid rest e p)
 
-    first_shape : Shape (booked (book_at k₀ before) opener).entries l none
+    first_shape : Shape (booked (book_at k₀ before) opener).entries l None
     first_shape =
         subst (λ (o : Option ℕ). Shape (booked (book_at k₀ before) opener).entries l o)
-        (opened_next (book_at k₀ before) opener l (partner_of k₀ none before l) (is_true _ opened-here))
-        (shaped_next (book_at k₀ before) opener l (partner_of k₀ none before l) (shape_at before l)
+        (opened_next (book_at k₀ before) opener l (partner_of k₀ None before l) (is_true _ opened-here))
+        (shaped_next (book_at k₀ before) opener l (partner_of k₀ None before l) (shape_at before l)
         (seen_next (book_at k₀ before) (together_sound (t_at before)) opener l ∙ or_left (opens_at (book_at k₀ before) opener l) _ (is_true _ opened-here)))
 
     -- no transfer since: one call
-    still_call : ((mid rest : List Event) (e : Event) → since ≡ mid ++ (e ∷ rest) → transfer_of (book_at k₀ (before ++ (opener ∷ mid))) e l ≡ none) → Shape (book_at k₀ (before ++ (opener ∷ since))).entries l none
+    still_call : ((mid rest : List Event) (e : Event) → since ≡ mid ++ (e ∷ rest) → transfer_of (book_at k₀ (before ++ (opener ∷ mid))) e l ≡ None) → Shape (book_at k₀ (before ++ (opener ∷ since))).entries l None
     still_call g =
-        subst⁻¹ (λ (k : Book). Shape k.entries l none) (at_mid since)
-        (call_stays t₁ since l first_shape unended_since (λ mid rest e p. subst (λ (k : Book). transfer_of k e l ≡ none) (at_mid mid) (g mid rest e p)))
+        subst⁻¹ (λ (k : Book). Shape k.entries l None) (at_mid since)
+        (call_stays t₁ since l first_shape unended_since (λ mid rest e p. subst (λ (k : Book). transfer_of k e l ≡ None) (at_mid mid) (g mid rest e p)))
 
     -- a transfer since: joined to that party
-    joined_since : (mid rest : List Event) (e : Event) (m : ℕ) → since ≡ mid ++ (e ∷ rest) → transfer_of (book_at k₀ (before ++ (opener ∷ mid))) e l ≡ some m → Shape (book_at k₀ (before ++ (opener ∷ since))).entries l (some m)
+    joined_since : (mid rest : List Event) (e : Event) (m : ℕ) → since ≡ mid ++ (e ∷ rest) → transfer_of (book_at k₀ (before ++ (opener ∷ mid))) e l ≡ Some m → Shape (book_at k₀ (before ++ (opener ∷ since))).entries l (Some m)
     joined_since mid rest e m p h =
-        subst⁻¹ (λ (k : Book). Shape k.entries l (some m)) (at_mid since ∙ ap (book_at k₁) p ∙ split_at mid e rest)
+        subst⁻¹ (λ (k : Book). Shape k.entries l (Some m)) (at_mid since ∙ ap (book_at k₁) p ∙ split_at mid e rest)
         (joined_stays t₂ rest l m
         (subst (λ (o : Option ℕ). Shape (booked (book_at k₁ mid) e).entries l o)
-        (joins_some l m (partner_of k₁ none mid l) (change_of (book_decision (book_at k₁ mid) e.octets e.room)) (transfer_is (book_at k₁ mid) e l m (subst (λ (k : Book). transfer_of k e l ≡ some m) (at_mid mid) h)))
-        (shaped_next (book_at k₁ mid) e l (partner_of k₁ none mid l) (shaped_list k₁ mid l none (λ _. first_shape)) (still_there (played_together t₁ mid) e l alive (unended_since mid rest e p))))
+        (joins_some l m (partner_of k₁ None mid l) (change_of (book_decision (book_at k₁ mid) e.octets e.room)) (transfer_is (book_at k₁ mid) e l m (subst (λ (k : Book). transfer_of k e l ≡ Some m) (at_mid mid) h)))
+        (shaped_next (book_at k₁ mid) e l (partner_of k₁ None mid l) (shaped_list k₁ mid l None (λ _. first_shape)) (still_there (played_together t₁ mid) e l alive (unended_since mid rest e p))))
         ended_not)
       where
         k₁ : Book
@@ -198,7 +197,7 @@ module _ (b₀ : Board) (k₀ : Book) (t₀ : Together b₀ k₀) (no-entries : 
 
         alive : any (has_leg l) (book_at (booked (book_at k₀ before) opener) mid).entries ≡ true
         alive =
-            alive_stays t₁ mid l (shape_there (booked (book_at k₀ before) opener).entries l none first_shape)
+            alive_stays t₁ mid l (shape_there (booked (book_at k₀ before) opener).entries l None first_shape)
             (λ mid₁ rest₁ x q. unended_since mid₁ (rest₁ ++ (e ∷ rest)) x (p ∙ ap (λ (r : List Event). r ++ (e ∷ rest)) q ∙ append_assoc mid₁ (x ∷ rest₁) (e ∷ rest)))
 
         t₂ : Together (stepped (board_at (stepped (board_at b₀ before) opener).board mid) e).board (booked (book_at (booked (book_at k₀ before) opener) mid) e)
@@ -230,18 +229,18 @@ module _ (b₀ : Board) (k₀ : Book) (t₀ : Together b₀ k₀) (no-entries : 
       from v = from_true (any_perm (has_leg l) t.order ∙ there list l v)
 
   joined_to : (list : List Event) (l : ℕ) (v : LivesIn k₀ list l) (mid rest : List Event) (e : Event) (m : ℕ) → v.since ≡ mid ++ (e ∷ rest) →
-      transfer_of (book_at k₀ (v.before ++ (v.opener ∷ mid))) e l ≡ some m → Partners (board_at b₀ list) l m
+      transfer_of (book_at k₀ (v.before ++ (v.opener ∷ mid))) e l ≡ Some m → Partners (board_at b₀ list) l m
   joined_to list l v mid rest e m p h =
       partner_rows (t_at list) l m
-      (subst⁻¹ (λ (r : List Event). Shape (book_at k₀ r).entries l (some m)) v.place
+      (subst⁻¹ (λ (r : List Event). Shape (book_at k₀ r).entries l (Some m)) v.place
       (joined_since v.before v.opener v.since l v.opened v.not_ended mid rest e m p h))
 
   has_call : (list : List Event) (l : ℕ) (v : LivesIn k₀ list l) →
-      ((mid rest : List Event) (e : Event) → v.since ≡ mid ++ (e ∷ rest) → transfer_of (book_at k₀ (v.before ++ (v.opener ∷ mid))) e l ≡ none) →
+      ((mid rest : List Event) (e : Event) → v.since ≡ mid ++ (e ∷ rest) → transfer_of (book_at k₀ (v.before ++ (v.opener ∷ mid))) e l ≡ None) →
       (c : Call) × HasRow (board_at b₀ list) l (WithUser c)
   has_call list l v g =
       call_row (t_at list) l
-      (subst⁻¹ (λ (r : List Event). Shape (book_at k₀ r).entries l none) v.place
+      (subst⁻¹ (λ (r : List Event). Shape (book_at k₀ r).entries l None) v.place
       (still_call v.before v.opener v.since l v.opened v.not_ended g))
 
   -- ---- the theorem

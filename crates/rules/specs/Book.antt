@@ -1,7 +1,6 @@
 -- The book, the reference model (document 01, "The book"): fed the options and each event's record and buffer length,
 -- and nothing from the board or the answers.
-use Rattle.std.specs.Prelude.{ℕ, Bool, ◌&&◌, ◌||◌, not, cond, List, [], ◌∷◌, map, eqb, leb, ltb, ℤ, pos, length}
-use Rattle.std.proofs.Math.Option.{Option, none, some}
+use Rattle.std.specs.Prelude.{ℕ, Bool, ◌&&◌, ◌||◌, not, cond, List, [], ◌∷◌, map, eqb, leb, ltb, ℤ, pos, length, None, Option, Some}
 use Rattle.octets.specs.declared.LinkId.{LinkId}
 use Rattle.octets.specs.Lists.{filter}
 use Rattle.octets.specs.Numbers.{next_link_id}
@@ -66,19 +65,19 @@ changed_entries (change.SetAuxiliary r a) es = map (map_connection (change_call 
 changed_entries (change.SetLinkId r l) es = map (map_connection (change_call r.0 (with_link_id l))) es
 changed_entries (change.Join a b) es = map (map_connection (join_legs a b)) es
 changed_entries (change.EndAlerting l) es = map (map_connection (end_alerting l)) es
-changed_entries (change.Release l) es = filter (stays l none) es
-changed_entries (change.ReleasePair l p) es = filter (stays l (some p)) es
+changed_entries (change.Release l) es = filter (stays l None) es
+changed_entries (change.ReleasePair l p) es = filter (stays l (Some p)) es
 
 -- "Open enters the leg and its call."
 unfoldable pub entries_after : Option BoardChange → List Entry → List Entry
-entries_after none es = es
-entries_after (some (Enter p n)) es = record { leg = p.leg; connection = WithUser p.call } ∷ es
-entries_after (some (Apply c)) es = changed_entries c es
+entries_after None es = es
+entries_after (Some (Enter p n)) es = record { leg = p.leg; connection = WithUser p.call } ∷ es
+entries_after (Some (Apply c)) es = changed_entries c es
 
 -- "a new LinkId .. moves the candidate"
 abbrev pub moved_by : Option LinkId → ℤ → ℤ
-moved_by none z = z
-moved_by (some l) z = next_link_id l.0
+moved_by None z = z
+moved_by (Some l) z = next_link_id l.0
 
 unfoldable pub candidate_moves : Option BoardChange → ℤ → ℤ
 candidate_moves c z = moved_by (new_link_id_of c) z

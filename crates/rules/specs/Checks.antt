@@ -1,7 +1,6 @@
 -- What is decided of a request: refused, or what is to be done (document 01, "Event records", checks 6 to 11; document 02, slip 5, check 12).
 -- The entries are the board's rows taken, or the book's entries.
-use Rattle.std.specs.Prelude.{ℕ, Bool, true, false, ◌&&◌, cond, List, ℤ, take}
-use Rattle.std.proofs.Math.Option.{Option, none, some}
+use Rattle.std.specs.Prelude.{ℕ, Bool, true, false, ◌&&◌, cond, List, ℤ, take, None, Option, Some}
 use Rattle.octets.specs.declared.LinkId.{LinkId}
 use Rattle.octets.specs.Lists.{any, find}
 use Rattle.component.specs.declared.Answer.TheVariants as answer
@@ -13,7 +12,6 @@ use Rattle.board.specs.declared.CallState.{CallState}
 use Rattle.board.specs.declared.CallState.TheVariants.{OutgoingCallProceeding, CallDelivered, CallReceived, Active}
 use Rattle.board.specs.declared.AuxiliaryState.{AuxiliaryState}
 use Rattle.board.specs.declared.AuxiliaryState.TheVariants.{Idle, HoldRequest, CallHeld, RetrieveRequest}
-use Rattle.board.specs.declared.OptionalLinkId.TheVariants.{Absent}
 use Rattle.board.specs.declared.Call.{Call}
 use Rattle.board.specs.declared.PartyNumber.{PartyNumber}
 use Rattle.board.specs.declared.Options.{Options}
@@ -50,7 +48,7 @@ returned_by (Accept c w) = 0
 
 -- "board and buffer untouched"
 abbrev pub change_of : Decision → Option BoardChange
-change_of (Refuse c) = none
+change_of (Refuse c) = None
 change_of (Accept c w) = c
 
 -- "with a refusal that number is 0 and the buffer is untouched"
@@ -60,22 +58,22 @@ written_by (Accept c w) = w
 
 -- accepted, and parties that are there change
 abbrev pub accept : Change → Written → Decision
-accept c w = Accept (some (Apply c)) w
+accept c w = Accept (Some (Apply c)) w
 
 -- the LinkId that a change gives to a call, if it gives one
 abbrev pub assigned_by : Change → Option LinkId
-assigned_by (change.SetState r s) = none
-assigned_by (change.SetAuxiliary r a) = none
-assigned_by (change.SetLinkId r l) = some l
-assigned_by (change.Join a b) = none
-assigned_by (change.EndAlerting l) = none
-assigned_by (change.Release l) = none
-assigned_by (change.ReleasePair l p) = none
+assigned_by (change.SetState r s) = None
+assigned_by (change.SetAuxiliary r a) = None
+assigned_by (change.SetLinkId r l) = Some l
+assigned_by (change.Join a b) = None
+assigned_by (change.EndAlerting l) = None
+assigned_by (change.Release l) = None
+assigned_by (change.ReleasePair l p) = None
 
 abbrev pub new_link_id_of : Option BoardChange → Option LinkId
-new_link_id_of none = none
-new_link_id_of (some (Enter p n)) = none
-new_link_id_of (some (Apply c)) = assigned_by c
+new_link_id_of None = None
+new_link_id_of (Some (Enter p n)) = None
+new_link_id_of (Some (Apply c)) = assigned_by c
 
 -- "state 3 if outgoing, 7 if incoming (H)"
 abbrev pub first_state : Direction → CallState
@@ -84,7 +82,7 @@ first_state Incoming = CallReceived
 
 -- "Open takes .. state 3 if outgoing, 7 if incoming (H), Idle, no LinkId."
 abbrev pub opened : ℕ → Direction → Call
-opened r d = record { reference = record { 0 = r }; direction = d; state = first_state d; auxiliary = Idle; link = Absent }
+opened r d = record { reference = record { 0 = r }; direction = d; state = first_state d; auxiliary = Idle; link = None }
 
 -- "Progress: 3 to 4, 3 to 10, 4 to 10, 7 to 10."
 abbrev pub may_progress : CallState → CallState → Bool
@@ -134,14 +132,14 @@ entry_at l es = find (has_leg l) es
 
 -- "9: Progress, Hold, Facility: no call with that reference"; "11: a Progress, Hold or Answer not permitted above"
 abbrev pub decide_progress : ℕ → CallState → Option Party → Decision
-decide_progress r s none = Refuse refusal.NoSuchCall
-decide_progress r s (some p) =
+decide_progress r s None = Refuse refusal.NoSuchCall
+decide_progress r s (Some p) =
     cond (may_progress p.call.state s) (accept (change.SetState (record { 0 = r }) s) nothing) (Refuse refusal.NotPermitted)
 
 -- "in states 4 and 10"
 abbrev pub decide_hold : ℕ → AuxiliaryState → Option Party → Decision
-decide_hold r a none = Refuse refusal.NoSuchCall
-decide_hold r a (some p) =
+decide_hold r a None = Refuse refusal.NoSuchCall
+decide_hold r a (Some p) =
     cond (holdable p.call.state && may_hold p.call.auxiliary a) (accept (change.SetAuxiliary (record { 0 = r }) a) nothing)
     (Refuse refusal.NotPermitted)
 
@@ -152,8 +150,8 @@ release_of l (WithPartner p a) = change.ReleasePair l p
 
 -- "10: Release, Answer: no such leg"
 abbrev pub decide_release : Option Entry → Decision
-decide_release none = Refuse refusal.NoSuchLeg
-decide_release (some e) = accept (release_of e.leg e.connection) (release_replies e.connection)
+decide_release None = Refuse refusal.NoSuchLeg
+decide_release (Some e) = accept (release_of e.leg e.connection) (release_replies e.connection)
 
 -- "Answer: a joined, alerting leg stops alerting."
 abbrev pub decide_alerting : Options → ℕ → Connection → Decision
@@ -162,32 +160,32 @@ decide_alerting o l (WithPartner p true) = accept (change.EndAlerting l) (answer
 decide_alerting o l (WithPartner p false) = Refuse refusal.NotPermitted
 
 abbrev pub decide_answer : Options → ℕ → Option Entry → Decision
-decide_answer o l none = Refuse refusal.NoSuchLeg
-decide_answer o l (some e) = decide_alerting o l e.connection
+decide_answer o l None = Refuse refusal.NoSuchLeg
+decide_answer o l (Some e) = decide_alerting o l e.connection
 
 -- what the component of the named party comes to: nothing or an answer alone, a new LinkId for its call, or a transfer;
 -- "A LinkId lives until its call is released or transferred."
 abbrev pub service_decision : Options → Party → Service → Decision
-service_decision o p Silent = Accept none nothing
-service_decision o p (Respond a) = Accept none (replied p.call.reference.0 a)
+service_decision o p Silent = Accept None nothing
+service_decision o p (Respond a) = Accept None (replied p.call.reference.0 a)
 service_decision o p (AssignLinkId l i) =
     accept (change.SetLinkId p.call.reference l) (replied p.call.reference.0 (answer.LinkIdResult i l))
 service_decision o p (Transfer x y i) = accept (change.Join x.leg y.leg) (transfer_replies o p.call.reference.0 i x y)
 
 abbrev pub decide_facility : Options → ℤ → List Entry → List ℕ → Option Party → Decision
-decide_facility o z es c none = Refuse refusal.NoSuchCall
-decide_facility o z es c (some p) = service_decision o p (serve o z (calls es) p (reading c))
+decide_facility o z es c None = Refuse refusal.NoSuchCall
+decide_facility o z es c (Some p) = service_decision o p (serve o z (calls es) p (reading c))
 
 -- "A SubaddressTransfer invoke .. on a joined leg is passed on unchanged to the partner, alerting or not"; "11 for a leg still with the
 -- served user, then a new 12 for a component that isn't such an invoke" (document 02, slip 5)
 abbrev pub decide_passing : ℕ → List ℕ → Connection → Decision
 decide_passing n c (WithUser call) = Refuse refusal.NotPermitted
-decide_passing n c (WithPartner p a) = cond (is_subaddress_transfer (take n c)) (Accept none (passed_on_record p n c)) (Refuse refusal.NoSuchInvoke)
+decide_passing n c (WithPartner p a) = cond (is_subaddress_transfer (take n c)) (Accept None (passed_on_record p n c)) (Refuse refusal.NoSuchInvoke)
 
 -- "Checks: 10 for no such leg, then .."
 abbrev pub decide_leg_facility : ℕ → List ℕ → Option Entry → Decision
-decide_leg_facility n c none = Refuse refusal.NoSuchLeg
-decide_leg_facility n c (some e) = decide_passing n c e.connection
+decide_leg_facility n c None = Refuse refusal.NoSuchLeg
+decide_leg_facility n c (Some e) = decide_passing n c e.connection
 
 -- "6: Open: leg on the board"; "7: Open: reference in use"; "8: Open: no empty row"
 abbrev pub decide_open : Bool → Bool → Bool → Decision → Decision
@@ -196,7 +194,7 @@ decide_open leg_there reference_there full d =
 
 -- a far party with its new call and its number
 abbrev pub opening : ℕ → ℕ → Direction → PartyNumber → Decision
-opening r l d n = Accept (some (Enter (record { leg = l; call = opened r d }) n)) nothing
+opening r l d n = Accept (Some (Enter (record { leg = l; call = opened r d }) n)) nothing
 
 -- by the options, the candidate, whether no row is empty, and the entries
 unfoldable pub decide : Options → ℤ → Bool → List Entry → Request → Decision

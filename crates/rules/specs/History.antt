@@ -1,7 +1,6 @@
 -- Whole lists of events on a board that begins fresh (demand 3; document 01, "The book").
-use Rattle.std.specs.Prelude.{ℕ, ◌≡◌, ◌↔◌, Bool, true, false, ◌&&◌, ◌||◌, not, cond, eqb, T, length}
+use Rattle.std.specs.Prelude.{ℕ, ◌≡◌, ◌↔◌, Bool, true, false, ◌&&◌, ◌||◌, not, cond, eqb, T, length, None, Option, Some}
 use mathlib.Core.List.{List, [], ◌∷◌, ◌++◌, Memᴰ}
-use Rattle.std.proofs.Math.Option.{Option, none, some}
 use Rattle.octets.specs.Lists.{any, all, filter, distinct}
 use Rattle.board.specs.declared.Call.{Call}
 use Rattle.board.specs.declared.Board.{Board}
@@ -107,18 +106,18 @@ ends k e l = ends_leg k.entries l (request e.octets)
 
 -- the party that a transfer joins the leg with
 abbrev pub joins_to : ℕ → Change → Option ℕ
-joins_to l (change.SetState r s) = none
-joins_to l (change.SetAuxiliary r a) = none
-joins_to l (change.SetLinkId r z) = none
-joins_to l (change.Join a b) = cond (eqb l a) (some b) (cond (eqb l b) (some a) none)
-joins_to l (change.EndAlerting m) = none
-joins_to l (change.Release m) = none
-joins_to l (change.ReleasePair m p) = none
+joins_to l (change.SetState r s) = None
+joins_to l (change.SetAuxiliary r a) = None
+joins_to l (change.SetLinkId r z) = None
+joins_to l (change.Join a b) = cond (eqb l a) (Some b) (cond (eqb l b) (Some a) None)
+joins_to l (change.EndAlerting m) = None
+joins_to l (change.Release m) = None
+joins_to l (change.ReleasePair m p) = None
 
 abbrev pub joined_by : ℕ → Option BoardChange → Option ℕ
-joined_by l none = none
-joined_by l (some (Enter p n)) = none
-joined_by l (some (Apply c)) = joins_to l c
+joined_by l None = None
+joined_by l (Some (Enter p n)) = None
+joined_by l (Some (Apply c)) = joins_to l c
 
 -- the party with whom the event joins the leg; "transfer, joined and live LinkId are the book's at that point of the list"
 unfoldable pub transfer_of : Book → Event → ℕ → Option ℕ
@@ -176,8 +175,8 @@ pub record WholeHistory (b : Board) (k : Book) (list : List Event) : Type 0 wher
   pub presence : (l : ℕ) → T (on_board (board_at b list) l) ↔ Lives k (history k list) l
   -- "it has the partner, and is that one's partner, to whom a transfer has joined it since, or else one call with the served user"
   pub partner : (l : ℕ) (v : Lives k (history k list) l) →
-      EachSince v (λ k' e. (m : ℕ) → transfer_of k' e l ≡ some m → Partners (board_at b list) l m)
-      × (EachSince v (λ k' e. transfer_of k' e l ≡ none) → (c : Call) × HasRow (board_at b list) l (WithUser c))
+      EachSince v (λ k' e. (m : ℕ) → transfer_of k' e l ≡ Some m → Partners (board_at b list) l m)
+      × (EachSince v (λ k' e. transfer_of k' e l ≡ None) → (c : Call) × HasRow (board_at b list) l (WithUser c))
   -- "no two live LinkIds are equal"
   pub link_ids : T (distinct same_link_ids (taken (board_at b list).rows))
   -- "wherever in the list an event was answered with an error, the whole board stayed as that event found it": by the records, and by the octets

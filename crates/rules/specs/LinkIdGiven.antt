@@ -1,6 +1,5 @@
 -- What an EctLinkIdRequest comes to while fewer than 16 LinkIds are live (document 01, "Serving it").
-use Rattle.std.specs.Prelude.{ℕ, zero, suc, ◌<◌, ◌≡◌, true, false, List, ℤ}
-use Rattle.std.proofs.Math.Option.{none}
+use Rattle.std.specs.Prelude.{ℕ, zero, suc, ◌<◌, ◌≡◌, true, false, List, ℤ, None}
 use Rattle.octets.specs.declared.IntegerOctets.{IntegerOctets}
 use Rattle.octets.specs.Lists.{any}
 use Rattle.octets.specs.Numbers.{same_integer, next_link_id}
@@ -22,4 +21,4 @@ pub record FirstNotLive (candidate : ℤ) (used : List ℤ) (z : ℤ) : Type 0 w
 pub record LinkIdGiven (candidate : ℤ) (used : List ℤ) : Type 0 where
   pub value : ℤ
   pub first : FirstNotLive candidate used value
-  pub given : (i : IntegerOctets) → link_id_request candidate used i none ≡ AssignLinkId (record { 0 = value }) i
+  pub given : (i : IntegerOctets) → link_id_request candidate used i None ≡ AssignLinkId (record { 0 = value }) i

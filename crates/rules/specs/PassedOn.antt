@@ -1,6 +1,5 @@
 -- What is claimed of a Leg facility, whatever the octets of its body (document 02, slip 5).
-use Rattle.std.specs.Prelude.{ℕ, ◌≤◌, ◌≡◌, ◌↔◌, Bool, false, not, List, [], ◌∷◌, ◌++◌, T, length, take, drop, get_or}
-use Rattle.std.proofs.Math.Option.{none}
+use Rattle.std.specs.Prelude.{ℕ, ◌≤◌, ◌≡◌, ◌↔◌, Bool, false, not, List, [], ◌∷◌, ◌++◌, T, length, take, drop, get_or, None}
 use Rattle.octets.specs.Numbers.{four}
 use Rattle.subaddresses.specs.SubaddressTransfer.{is_subaddress_transfer}
 use Rattle.board.specs.declared.Board.{Board}
@@ -55,4 +54,4 @@ pub record MovesNobody (k : Book) (e : Event) : Type 0 where
   pub book_stays : booked k e ≡ k
   pub opens_nobody : (l : ℕ) → opens e l ≡ false
   pub ends_nobody : (l : ℕ) → ends k e l ≡ false
-  pub joins_nobody : (l : ℕ) → transfer_of k e l ≡ none
+  pub joins_nobody : (l : ℕ) → transfer_of k e l ≡ None

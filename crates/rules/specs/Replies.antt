@@ -1,6 +1,5 @@
 -- Reply records: as data, and as octets (document 01, "Reply records", and what "Serving it" tells the far parties).
-use Rattle.std.specs.Prelude.{ℕ, Bool, true, false, ◌&&◌, ◌||◌, cond, List, [], ◌∷◌, ◌++◌, eqb, length, replicate, get_or}
-use Rattle.std.proofs.Math.Option.{Option, none, some}
+use Rattle.std.specs.Prelude.{ℕ, Bool, true, false, ◌&&◌, ◌||◌, cond, List, [], ◌∷◌, ◌++◌, eqb, length, replicate, get_or, None, Option, Some}
 use Rattle.octets.specs.declared.IntegerOctets.{IntegerOctets}
 use Rattle.octets.specs.Lists.{find}
 use Rattle.octets.specs.Numbers.{two, four}
@@ -55,8 +54,8 @@ number_as_told n =
     (record { mark = 1; count = n.count; digits = n.digits }))
 
 abbrev pub number_of_row : Option Row → TellNumber
-number_of_row none = mark_only 0
-number_of_row (some r) = number_as_told r.number
+number_of_row None = mark_only 0
+number_of_row (Some r) = number_as_told r.number
 
 -- the number of the party at a leg
 abbrev pub number_at : List Row → ℕ → TellNumber

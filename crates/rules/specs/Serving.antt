@@ -1,7 +1,6 @@
 -- Serving what a component asks for (document 01, "Serving it"), over a list of far parties with their calls:
 -- the board's for the board, the book's for the book.
-use Rattle.std.specs.Prelude.{ℕ, Bool, ◌&&◌, not, cond, List, eqb, leb, ℤ, length}
-use Rattle.std.proofs.Math.Option.{Option, none, some}
+use Rattle.std.specs.Prelude.{ℕ, Bool, ◌&&◌, not, cond, List, eqb, leb, ℤ, length, None, Option, Some}
 use Rattle.octets.specs.declared.IntegerOctets.{IntegerOctets}
 use Rattle.octets.specs.Lists.{filter, find, only}
 use Rattle.component.specs.declared.Operation.{Operation}
@@ -26,16 +25,16 @@ error i e = Respond (answer.Error i e)
 
 -- with fewer than 16 live, 16 values always hold one that is free, so there is always a value: theorem `link_id_given`
 abbrev pub assign : IntegerOctets → Option ℤ → Service
-assign i none = error i 11
-assign i (some z) = AssignLinkId (record { 0 = z }) i
+assign i None = error i 11
+assign i (Some z) = AssignLinkId (record { 0 = z }) i
 
 -- "a call that has a LinkId gets it again (H). Else, with 16 live, e = 11. Else the first value not live from the candidate upward"
 abbrev pub new_link_id : ℕ → IntegerOctets → Option ℤ → Service
 new_link_id used i o = cond (leb most_link_ids used) (error i 11) (assign i o)
 
 abbrev pub link_id_request : ℤ → List ℤ → IntegerOctets → Option ℤ → Service
-link_id_request candidate used i none = new_link_id (length used) i (free_link_id most_link_ids candidate used)
-link_id_request candidate used i (some z) = Respond (answer.LinkIdResult i (record { 0 = z }))
+link_id_request candidate used i None = new_link_id (length used) i (free_link_id most_link_ids candidate used)
+link_id_request candidate used i (Some z) = Respond (answer.LinkIdResult i (record { 0 = z }))
 
 -- ---- transfers
 
@@ -48,13 +47,13 @@ partner_for o named q = not (same_call named q) && calls_pair o named.call q.cal
 
 -- "EctExecute: if exactly one other served call pairs with the named one, transfer; else e = 7 (H)."
 abbrev pub execute : Party → IntegerOctets → Option Party → Service
-execute named i none = error i 7
-execute named i (some q) = Transfer named q i
+execute named i None = error i 7
+execute named i (Some q) = Transfer named q i
 
 -- "ExplicitEctExecute: LinkId not live, 06 error above; its call is the named call, or doesn't pair, e = 7; else transfer."
 abbrev pub execute_explicitly : Options → Party → IntegerOctets → Option Party → Service
-execute_explicitly o named i none = Respond (answer.LinkIdNotAssigned i)
-execute_explicitly o named i (some q) = cond (partner_for o named q) (Transfer named q i) (error i 7)
+execute_explicitly o named i None = Respond (answer.LinkIdNotAssigned i)
+execute_explicitly o named i (Some q) = cond (partner_for o named q) (Transfer named q i) (error i 7)
 
 abbrev pub perform : Options → ℤ → List Party → Party → IntegerOctets → Operation → Service
 perform o candidate ps named i EctExecute = execute named i (only (filter (partner_for o named) ps))

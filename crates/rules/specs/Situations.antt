@@ -1,5 +1,5 @@
 -- The situations that document 01 marks (its section "Situations"), and its worked log, as statements about the rules.
-use Rattle.std.specs.Prelude.{ℕ, zero, suc, ◌≡◌, List, [], ◌∷◌, ◌++◌, ℤ, pos, negsuc, length, replicate}
+use Rattle.std.specs.Prelude.{ℕ, zero, suc, ◌≡◌, List, [], ◌∷◌, ◌++◌, ℤ, pos, negsuc, length, replicate, None}
 use Rattle.octets.specs.declared.IntegerOctets.TheVariants.{One}
 use Rattle.octets.specs.Numbers.{fewest}
 use Rattle.component.specs.declared.Answer.TheVariants as answer
@@ -9,7 +9,6 @@ use Rattle.board.specs.declared.CallState.{CallState}
 use Rattle.board.specs.declared.CallState.TheVariants.{CallDelivered, Active}
 use Rattle.board.specs.declared.AuxiliaryState.{AuxiliaryState}
 use Rattle.board.specs.declared.AuxiliaryState.TheVariants.{Idle, HoldRequest, CallHeld}
-use Rattle.board.specs.declared.OptionalLinkId.TheVariants.{Absent}
 use Rattle.board.specs.declared.Call.{Call}
 use Rattle.board.specs.declared.Board.{Board}
 use Rattle.board.specs.Making.{fresh}
@@ -78,7 +77,7 @@ unfoldable pub sixteen_live : Board
 sixteen_live = after_records (fresh 1 0).board (up_to 17 open_record ++ up_to 16 (facility_record ect_link_id_request))
 
 abbrev pub call : CallState → AuxiliaryState → Call
-call s a = record { reference = record { 0 = 1 }; direction = Outgoing; state = s; auxiliary = a; link = Absent }
+call s a = record { reference = record { 0 = 1 }; direction = Outgoing; state = s; auxiliary = a; link = None }
 
 -- ---- answers to the invoke with identifier 5
 

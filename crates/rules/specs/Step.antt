@@ -1,6 +1,5 @@
 -- One event on a board: what is returned, the board afterwards, and the reply records (document 01, "Event records", "Serving it").
-use Rattle.std.specs.Prelude.{ℕ, Bool, cond, List, [], ltb}
-use Rattle.std.proofs.Math.Option.{Option, none, some}
+use Rattle.std.specs.Prelude.{ℕ, Bool, cond, List, [], ltb, None, Option, Some}
 use Rattle.octets.specs.declared.LinkId.{LinkId}
 use Rattle.octets.specs.Numbers.{next_link_id}
 use Rattle.board.specs.declared.Standing.TheVariants.{Served}
@@ -29,13 +28,13 @@ rows_by (Enter p n) rows = enter (entered_row p n) rows
 rows_by (Apply c) rows = changed_rows c rows
 
 unfoldable pub rows_after : Option BoardChange → List Row → List Row
-rows_after none rows = rows
-rows_after (some c) rows = rows_by c rows
+rows_after None rows = rows
+rows_after (Some c) rows = rows_by c rows
 
 -- with a new LinkId "the candidate becomes the value after"
 abbrev pub candidate_by : Option LinkId → LinkId → LinkId
-candidate_by none z = z
-candidate_by (some l) z = record { 0 = next_link_id l.0 }
+candidate_by None z = z
+candidate_by (Some l) z = record { 0 = next_link_id l.0 }
 
 unfoldable pub candidate_after : Option BoardChange → LinkId → LinkId
 candidate_after c z = candidate_by (new_link_id_of c) z

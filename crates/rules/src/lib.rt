@@ -24,6 +24,7 @@ pub enum Service {
 }
 
 // A number as it is told: its mark, and its digits only where the mark is 1.
+// The mark is an octet, since a caller may have any number told: kinds of marks would ask more of it.
 #[derive(Clone, Copy)]
 pub struct TellNumber {
     pub mark: u8,

@@ -10,7 +10,7 @@ ghost use Rattle.board.specs.LinkIds.{live};
 ghost use Rattle.board.specs.Entries.{link_id_in};
 
 use board::finding::free_link_id;
-use board::{Board, FoundParty, MOST_LINK_IDS, OptionalLinkId, Party};
+use board::{Board, MOST_LINK_IDS, Party};
 use component::{Answer, Operation, Reading};
 use octets::{IntegerOctets, LinkId};
 use pairing::{is_partner, only_partner};
@@ -31,14 +31,12 @@ fn failed(identifier: IntegerOctets, number: u8) -> Service
 fn assign_link_id(board: Board, identifier: IntegerOctets) -> Service
     ensures { result ≡ new_link_id (length (live (parties_of board))) identifier (free_in board) }
 {
-    let rows = board.rows;
-    let tally = add_up(rows);
-    if MOST_LINK_IDS <= tally.links {
+    if MOST_LINK_IDS <= add_up(board.rows).links {
         return failed(identifier, 11);
     }
     match free_link_id(board) {
-        OptionalLinkId::Absent => failed(identifier, 11),
-        OptionalLinkId::Present(id) => Service::AssignLinkId(id, identifier),
+        None => failed(identifier, 11),
+        Some(id) => Service::AssignLinkId(id, identifier),
     }
 }
 
@@ -46,18 +44,16 @@ fn request_link_id(board: Board, named: Party, identifier: IntegerOctets) -> Ser
     ensures { result ≡ link_id_request board.candidate.0 (live (parties_of board)) identifier
         (link_id_in named.call.link) }
 {
-    let call = named.call;
-    let link = call.link;
-    match link {
-        OptionalLinkId::Absent => assign_link_id(board, identifier),
-        OptionalLinkId::Present(id) => Service::Respond(Answer::LinkIdResult(identifier, id)),
+    match named.call.link {
+        None => assign_link_id(board, identifier),
+        Some(id) => Service::Respond(Answer::LinkIdResult(identifier, id)),
     }
 }
 
 fn execute(board: Board, named: Party, identifier: IntegerOctets) -> Service
     ensures { result ≡ executed named identifier (only (paired_on board named)) }
 {
-    let FoundParty::This(other) = only_partner(board, named) else {
+    let Some(other) = only_partner(board, named) else {
         return failed(identifier, 7);
     };
     Service::Transfer {
@@ -70,11 +66,10 @@ fn execute(board: Board, named: Party, identifier: IntegerOctets) -> Service
 fn execute_explicitly(board: Board, named: Party, identifier: IntegerOctets, id: LinkId) -> Service
     ensures { result ≡ execute_explicitly board.options named identifier (linked_on board id) }
 {
-    let FoundParty::This(other) = linked(board, id) else {
+    let Some(other) = linked(board, id) else {
         return Service::Respond(Answer::LinkIdNotAssigned(identifier));
     };
-    let options = board.options;
-    if is_partner(options, named, other) {
+    if is_partner(board.options, named, other) {
         return Service::Transfer {
             named,
             other,

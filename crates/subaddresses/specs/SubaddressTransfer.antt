@@ -3,8 +3,6 @@ use Rattle.std.specs.Prelude.{ℕ, Bool, true, false, ◌&&◌, ◌||◌, List, 
 use Rattle.octets.specs.Tests.{has}
 use Rattle.elements.specs.Elements.{Element, Bad, Whole, first_element, no_octets}
 use Rattle.component.specs.Arguments.{arguments_in}
-use Rattle.subaddresses.specs.declared.LegComponent.{LegComponent}
-use Rattle.subaddresses.specs.declared.LegComponent.TheVariants as leg-component
 
 -- "04 of 1 to 20 octets"
 abbrev pub is_subaddress : ℕ → ℕ → Bool
@@ -34,8 +32,3 @@ is_argument (Whole tag contents rest) =
 -- "A SubaddressTransfer invoke (identifier ending 03 ..)"
 unfoldable pub is_subaddress_transfer : List ℕ → Bool
 is_subaddress_transfer c = has (λ (rest : List ℕ). is_argument (first_element rest)) (arguments_in 0x03 c)
-
--- what the reader's answer says of the component
-abbrev pub says_transfer : LegComponent → Bool
-says_transfer leg-component.SubaddressTransfer = true
-says_transfer leg-component.Other = false

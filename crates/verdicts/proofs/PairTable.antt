@@ -1,5 +1,7 @@
 -- The table of the pair rule.
 use Prim.{tt}
+use contract.Lifetimes.{Lfts}
+use Rattle.std.proofs.Common.{Bor}
 use Prim.Native.Nat.{ℕ, ◌+◌, ◌*◌}
 use mathlib.Core.Path.{◌≡◌, ◌∙◌, refl, ap}
 use mathlib.Core.List.{List, map, flat_map, [], ◌∷◌}
@@ -23,8 +25,8 @@ pub entry_is_verdict : (c d : Call) → verdict_in (table_of verdict) c d ≡ ve
 entry_is_verdict = table_is_rule verdict verdict_on_situations
 
 -- whatever table `pair_table` gives by its contract, its entry at 32 times the one situation plus the other is the verdict, for all calls
-pub table_is_verdict : (t : List ℕ) → pair-table.Post tt tt t tt → (c d : Call) → get_or t (32 * situation c + situation d) 0 ≡ verdict c d
-table_is_verdict t e c d = ap (λ (x : List ℕ). verdict_in x c d) e ∙ entry_is_verdict c d
+pub table_is_verdict : (l : Lfts 1) (t : Bor (List ℕ)) → pair-table.Post l tt t tt → (c d : Call) → get_or t.now (32 * situation c + situation d) 0 ≡ verdict c d
+table_is_verdict l t e c d = ap (λ (x : List ℕ). verdict_in x c d) e ∙ entry_is_verdict c d
 
 -- the table is the same with its situations exchanged, and the verdict with its calls: "names reversible"
 pub symmetric : table_of (exchanged verdict) ≡ table_of verdict

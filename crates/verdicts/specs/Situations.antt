@@ -1,5 +1,5 @@
 -- Call situations and their numbers (document 02, slip 2).
-use Rattle.std.specs.Prelude.{ℕ, ◌+◌, ◌*◌}
+use Rattle.std.specs.Prelude.{ℕ, ◌+◌, ◌*◌, None}
 use mathlib.Core.List.{List, [], ◌∷◌, map, flat_map}
 use Rattle.board.specs.declared.Direction.{Direction}
 use Rattle.board.specs.declared.Direction.TheVariants.{Outgoing, Incoming}
@@ -7,7 +7,6 @@ use Rattle.board.specs.declared.CallState.{CallState}
 use Rattle.board.specs.declared.CallState.TheVariants.{OutgoingCallProceeding, CallDelivered, CallReceived, Active}
 use Rattle.board.specs.declared.AuxiliaryState.{AuxiliaryState}
 use Rattle.board.specs.declared.AuxiliaryState.TheVariants.{Idle, HoldRequest, CallHeld, RetrieveRequest}
-use Rattle.board.specs.declared.OptionalLinkId.TheVariants as link-id
 use Rattle.board.specs.declared.Call.{Call}
 use Rattle.board.specs.States.{auxiliary_number, direction_number}
 
@@ -35,7 +34,7 @@ directions = Outgoing ∷ Incoming ∷ []
 
 -- a call of which nothing but the situation counts
 abbrev pub call_in : CallState → AuxiliaryState → Direction → Call
-call_in s a d = record { reference = record { 0 = 0 }; direction = d; state = s; auxiliary = a; link = link-id.Absent }
+call_in s a d = record { reference = record { 0 = 0 }; direction = d; state = s; auxiliary = a; link = None }
 
 abbrev pub situations_in : CallState → List Call
 situations_in s = flat_map (λ a. map (call_in s a) directions) auxiliaries

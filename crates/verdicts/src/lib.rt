@@ -2,63 +2,30 @@
 #![tactic(auto)]
 
 ghost use Rattle.std.specs.Prelude.{◌≡◌};
-ghost use Rattle.board.specs.States.{auxiliary_number, direction_number};
 ghost use Rattle.rules.specs.Pairing.{verdict};
-ghost use Rattle.verdicts.specs.Situations.{state_place, situation as situation_of};
+ghost use Rattle.verdicts.specs.Situations.{situation as situation_of};
 ghost use Rattle.verdicts.specs.Tables.{table_of, verdict_in};
 
-use board::{AuxiliaryState, Call, CallState, Direction};
+use board::Call;
 use table::VERDICTS;
 
 mod table;
 
-// The place of a call state among 3, 4, 7 and 10.
-fn state_place(state: CallState) -> usize
-    ensures { result ≡ state_place state }
-{
-    match state {
-        CallState::OutgoingCallProceeding => 0,
-        CallState::CallDelivered => 1,
-        CallState::CallReceived => 2,
-        CallState::Active => 3,
-    }
-}
-
-fn auxiliary_number(auxiliary: AuxiliaryState) -> usize
-    ensures { result ≡ auxiliary_number auxiliary }
-{
-    match auxiliary {
-        AuxiliaryState::Idle => 0,
-        AuxiliaryState::HoldRequest => 1,
-        AuxiliaryState::CallHeld => 2,
-        AuxiliaryState::RetrieveRequest => 3,
-    }
-}
-
-fn direction_number(direction: Direction) -> usize
-    ensures { result ≡ direction_number direction }
-{
-    match direction {
-        Direction::Outgoing => 0,
-        Direction::Incoming => 1,
-    }
-}
-
-// The number of a call's situation, 0 to 31.
+// The number of a call's situation, 0 to 31. Each kind has its place, from 0, in the order of its declaration.
 pub fn situation(call: Call) -> usize
     ensures { result ≡ situation_of call }
 {
-    let state = call.state;
-    let auxiliary = call.auxiliary;
-    let direction = call.direction;
-    8 * state_place(state) + 2 * auxiliary_number(auxiliary) + direction_number(direction)
+    let state = call.state as usize;
+    let auxiliary = call.auxiliary as usize;
+    let direction = call.direction as usize;
+    8 * state + 2 * auxiliary + direction
 }
 
-// The table. To be taken once and lent to whatever looks up: each use of a constant array makes a copy of it.
-pub fn pair_table() -> [u8; 1024]
-    ensures { result ≡ table_of verdict }
+// The table. It is lent: a use of it by value would make a copy.
+pub fn pair_table() -> &'static [u8; 1024]
+    ensures { result.now ≡ table_of verdict }
 {
-    VERDICTS
+    &VERDICTS
 }
 
 // The entry of a table for two calls.

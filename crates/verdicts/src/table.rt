@@ -1,6 +1,7 @@
 // A verdict for each two situations: 32 times the first one's number plus the second one's is the place.
-// Zeros but for eight ones and eight twos. The table on paper is made from it: docs/PAIR-TABLE.md.
-pub const VERDICTS: [u8; 1024] = [
+// Zeros but for eight ones and eight twos. A verdict is a number, as the specification has it: 0 no pair, 1 a pair,
+// 2 a pair where the alerting option is 1. The table on paper is made from it: docs/PAIR-TABLE.md.
+pub static VERDICTS: [u8; 1024] = [
     // 0: Outgoing Call Proceeding, Idle, outgoing
     0, 0, 0, 0, 0, 0, 0, 0, 0, 0, 0, 0, 0, 0, 0, 0, 0, 0, 0, 0, 0, 0, 0, 0, 0, 0, 0, 0, 0, 0, 0, 0,
     // 1: Outgoing Call Proceeding, Idle, incoming

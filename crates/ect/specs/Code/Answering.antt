@@ -1,11 +1,14 @@
--- The answer to an event, of what its effect says.
-use Rattle.std.specs.Prelude.{ℕ}
-use Rattle.effects.specs.declared.Acceptance.{Acceptance}
-use Rattle.effects.specs.declared.Acceptance.TheVariants as acceptance
-use Rattle.ect.specs.declared.StepAnswer.{StepAnswer}
-use Rattle.ect.specs.declared.StepAnswer.TheVariants.{Accepted, Refused}
+-- What the code makes of an event, refused or accepted.
+use Rattle.std.specs.Prelude.{ℕ, Bool, List, Result, Ok, Err}
+use Rattle.board.specs.declared.Board.{Board}
+use Rattle.events.specs.declared.Refusal.{Refusal}
+use Rattle.ect.specs.declared.Stepped.{Stepped}
+use Rattle.ect.specs.Contract.{StepsTested}
 
--- with the number of octets written
-abbrev pub answer_to : Acceptance → ℕ → StepAnswer
-answer_to acceptance.Accepted n = Accepted n
-answer_to (acceptance.Refused c) n = Refused c
+-- a refusal leaves the board
+abbrev pub answered : Board → Result (ℕ × Board) Refusal → Stepped
+answered b (Err c) = record { answer = Err c; board = b }
+answered b (Ok (n, after)) = record { answer = Ok n; board = after }
+
+abbrev pub Accepts : Bool → Board → List ℕ → List ℕ → Result (ℕ × Board) Refusal → List ℕ → Type 0
+Accepts tested b event before r after = StepsTested tested b event before (answered b r) after

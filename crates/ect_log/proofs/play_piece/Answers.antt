@@ -5,8 +5,8 @@ use Rattle.ect_log.proofs.play_piece.Goals as goal
 
 pub returns : goal.returns
 returns c =
-    let log = c.args.log in
-    let piece = c.args.piece.now in (
-      read_within log.board log.number piece log.ended c.args.output.now _ c.play.result c.play.ensures,
-      written_within log.board log.number piece log.ended c.args.output.now _ c.play.result c.play.ensures (search rules),
+    let a = c.args in
+    let piece = a.piece.now in (
+      read_within a.board a.number piece a.is_last a.output.now _ c.play.result c.play.ensures,
+      written_within a.board a.number piece a.is_last a.output.now _ c.play.result c.play.ensures (search rules),
     )

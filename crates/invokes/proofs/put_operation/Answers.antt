@@ -1,9 +1,8 @@
-use native.Mathlib.Omega.{arith}
-use Rattle.octets.proofs.Putting.{join}
+use Rattle.filling.proofs.Putting.{next}
 use Rattle.invokes.proofs.put_operation.Goals as goal
 
 pub returns-in-ExplicitEctExecute : goal.returns-in-ExplicitEctExecute
 returns-in-ExplicitEctExecute c =
-    let o = rw c.to_integer.ensures at c.to_octets.ensures in
-    let p = c.put_object-next.ensures in
-    rw (c.in-ExplicitEctExecute.is, ← o) (join (omega arith) p c.put_integer-in-ExplicitEctExecute.ensures)
+    let o = rw c.from.ensures at c.into.ensures in
+    let p = rw o at c.put_integer-in-ExplicitEctExecute.ensures in
+    rw c.in-ExplicitEctExecute.is (next c.put_object.ensures (λ _. p) (rw c.in-ExplicitEctExecute.is at c.requires))

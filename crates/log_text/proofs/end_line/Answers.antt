@@ -1,13 +1,10 @@
-use Prim.Native.Nat.{◌≤◌}
 use native.Mathlib.Omega.{arith}
-use lib.ListN.{length}
-use Rattle.log_text.specs.Lines.{end_line}
-use Rattle.log_text.proofs.TextLaws.{end_length, put_five}
+use Rattle.std.proofs.Common.{rules}
+use Rattle.filling.proofs.Putting.{next}
+use Rattle.log_text.proofs.TextLaws.{end_length, filled}
 use Rattle.log_text.proofs.end_line.Goals as goal
 
 pub returns : goal.returns
 returns c =
-    let room : length (end_line c.args.legs c.args.pairs c.args.links) ≤ length c.args.out.now = omega (arith, end_length c.args.legs c.args.pairs c.args.links) in
-    put_five (room)
-    c.put_text-after_word.ensures c.put_spaced-after_legs.ensures
-    c.put_spaced-after_pairs.ensures c.put_decimal-after_links.ensures c.put.ensures
+    filled c.new-line.ensures.kept c.new-line.ensures.place (omega (arith, end_length c.args.legs c.args.pairs c.args.links))
+    (next (c.put.ensures.put (search rules)) (next c.put_number.ensures (next c.put_number-2.ensures (λ _. c.put_number-3.ensures)))) (search rules) (search rules)

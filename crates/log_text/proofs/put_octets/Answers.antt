@@ -2,30 +2,34 @@ use native.Mathlib.Omega.{arith}
 use mathlib.Core.Path.{ap}
 use lib.ListN.{length, take, length-take}
 use lib.Seq.{take_all}
-use Rattle.octets.proofs.Putting.{join}
+use Rattle.std.proofs.Common.{rules}
+use Rattle.filling.proofs.Putting.{nothing, join}
 use Rattle.log_text.proofs.TextLaws.{hex_length, hex_next, text_none, text_some}
 use Rattle.log_text.proofs.put_octets.Goals as goal
 
-pub put-requires : goal.put-requires
-put-requires c = omega (arith, ap length (text_none c.args.octets.now c.if-octets-eq0.true))
+pub returns-then-is_empty : goal.returns-then-is_empty
+returns-then-is_empty c =
+    let e = text_none c.args.octets.now (search rules) in
+    rw e (c.put.ensures.put (rw e at c.requires))
 
-pub returns-then-octets-eq0 : goal.returns-then-octets-eq0
-returns-then-octets-eq0 c = rw (text_none c.args.octets.now c.if-octets-eq0.true) c.put.ensures
+pub loop-octet-init : goal.loop-octet-init
+loop-octet-init c = nothing c.args.line.now
 
-pub put_octet-next-requires : goal.put_octet-next-requires
-put_octet-next-requires c =
+pub put_octet-requires : goal.put_octet-requires
+put_octet-requires c =
     let s = c.args.octets.now in
-    let h = ap length (text_some s (omega arith)) in
-    omega (arith, hex_length s, hex_length (take c.loop-i.i s), length-take c.loop-i.i s, c.loop-i.invariant.1.place, c.loop-i.invariant.1.long)
+    let i = c.loop-octet.octet-index in
+    let h = ap length (text_some s (search rules)) in
+    omega (arith, h, hex_length s, hex_length (take i s), length-take i s, c.loop-octet.invariant.place, c.loop-octet.invariant.long)
 
-pub loop-i-preserved : goal.loop-i-preserved
-loop-i-preserved c =
+pub loop-octet-preserved : goal.loop-octet-preserved
+loop-octet-preserved c =
     let s = c.args.octets.now in
-    let i = c.loop-i.i in
-    let h = ap length (text_some s (omega arith)) in
-    (omega arith, rw (hex_next s i c.loop-i-test.true) (join (omega (arith, hex_length s, hex_length (take i s), length-take i s)) c.loop-i.invariant.1 c.put_octet-next.ensures))
+    let i = c.loop-octet.octet-index in
+    let h = ap length (text_some s (search rules)) in
+    rw (hex_next s i c.loop-octet-test.true) (join c.loop-octet.invariant c.put_octet.ensures (omega (arith, h, hex_length s, hex_length (take i s), length-take i s)))
 
 pub returns : goal.returns
 returns c =
     let s = c.args.octets.now in
-    rw (text_some s (omega arith)) (rw (take_all c.loop-i.i s c.loop-i-test.false) at c.loop-i.invariant.1)
+    rw (text_some s (search rules)) (rw (take_all c.loop-octet.octet-index s c.loop-octet-test.false) at c.loop-octet.invariant)

@@ -1,12 +1,6 @@
-use native.Mathlib.Omega.{arith}
-use Rattle.replies.proofs.Room.{gone_room}
-use Rattle.replies.proofs.WritingLaws.{empty, renders}
+use Rattle.rules.specs.Replies.{Gone}
+use Rattle.replies.proofs.WritingLaws.{also, silent}
 use Rattle.replies.proofs.gone.Goals as goal
 
-pub push_gone-requires : goal.push_gone-requires
-push_gone-requires c = omega (arith, empty c.nothing.ensures)
-
 pub returns : goal.returns
-returns c =
-    let s = c.args in
-    renders c.nothing.ensures (omega (arith, gone_room s.leg)) c.push_gone.ensures
+returns c = also _ (Gone c.args.leg) (silent c.new.ensures) c.gone_record.ensures c.with.ensures.items

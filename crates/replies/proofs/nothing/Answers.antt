@@ -2,4 +2,4 @@ use Rattle.replies.proofs.WritingLaws.{silent}
 use Rattle.replies.proofs.nothing.Goals as goal
 
 pub returns : goal.returns
-returns c = silent
+returns c = silent c.new.ensures

@@ -1,12 +1,6 @@
-use native.Mathlib.Omega.{arith}
-use Rattle.replies.proofs.Room.{reply_room}
-use Rattle.replies.proofs.WritingLaws.{empty, renders}
+use Rattle.rules.specs.Replies.{Reply}
+use Rattle.replies.proofs.WritingLaws.{also, silent}
 use Rattle.replies.proofs.reply.Goals as goal
 
-pub push_reply-requires : goal.push_reply-requires
-push_reply-requires c = omega (arith, empty c.nothing.ensures)
-
 pub returns : goal.returns
-returns c =
-    let s = c.args in
-    renders c.nothing.ensures (omega (arith, reply_room s.reference.0 s.answer)) c.push_reply.ensures
+returns c = also _ (Reply c.args.reference.0 c.args.answer) (silent c.new.ensures) c.reply_record.ensures c.with.ensures.items

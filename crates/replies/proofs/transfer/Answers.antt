@@ -1,33 +1,17 @@
-use borrow.Author.Rules.{rules}
-use mathlib.Core.Path.{◌≡◌}
-use native.Mathlib.Omega.{arith}
-use lib.ListN.{length}
-use Rattle.replies.proofs.Room.{transfer_room}
-use Rattle.replies.proofs.WritingLaws.{also, empty, renders}
+use Rattle.component.specs.declared.Answer.TheVariants as answer
+use Rattle.rules.specs.Replies.{Reply, Drop, told}
+use Rattle.replies.proofs.WritingLaws.{also, silent}
 use Rattle.replies.proofs.transfer.Goals as goal
-
-pub push_reply-requires : goal.push_reply-requires
-push_reply-requires c = omega (arith, empty c.nothing.ensures)
-
-pub push_drop-requires : goal.push_drop-requires
-push_drop-requires c = omega (arith, empty c.nothing.ensures)
-
-pub push_drop-requires-2 : goal.push_drop-requires-2
-push_drop-requires-2 c = omega (arith, empty c.nothing.ensures)
-
-pub push_told-requires : goal.push_told-requires
-push_told-requires c = omega (arith, empty c.nothing.ensures)
-
-pub push_told-requires-2 : goal.push_told-requires-2
-push_told-requires-2 c = omega (arith, empty c.nothing.ensures)
 
 pub returns : goal.returns
 returns c =
-    let named-digits : length c.args.named.number.digits ≡ 15 = search rules in
-    let other-digits : length c.args.other.number.digits ≡ 15 = search rules in
-    renders c.nothing.ensures
-    (omega (arith, transfer_room c.args.reference c.args.identifier c.args.named c.args.other (named-digits) (other-digits)))
-    (also c.push_reply.ensures
-    (also c.push_drop.ensures
-    (also c.push_drop-2.ensures
-    (also c.push_told.ensures c.push_told-2.ensures))))
+    let s = c.args in
+    also _ (told s.other.leg s.other.alerts s.named.alerts s.named.number)
+    (also _ (told s.named.leg s.named.alerts s.other.alerts s.other.number)
+    (also _ (Drop s.other.reference.0)
+    (also _ (Drop s.named.reference.0)
+    (also _ (Reply s.reference.0 (answer.Result s.identifier)) (silent c.new.ensures) c.reply_record.ensures c.with.ensures.items)
+    c.drop_record.ensures c.with-2.ensures.items)
+    c.drop_record-2.ensures c.with-3.ensures.items)
+    c.told_record.ensures c.with-4.ensures.items)
+    c.told_record-2.ensures c.with-5.ensures.items

@@ -1,32 +1,36 @@
--- The replies of an event as a value, and what each writer of a record adds.
-use Rattle.std.specs.Prelude.{ℕ, ◌+◌, ◌-◌, ◌≡◌, List, [], ◌∷◌, ◌++◌, length, take, replicate}
+-- The replies of an event as a value, and the numbers of what a far party is told.
+use Rattle.std.specs.Prelude.{ℕ, Bool, true, false, List, [], ◌∷◌, ◌++◌}
 use Rattle.octets.specs.declared.CallReference.{CallReference}
 use Rattle.octets.specs.declared.IntegerOctets.{IntegerOctets}
-use Rattle.octets.specs.Code.Appending.{Appended}
 use Rattle.component.specs.declared.Answer.TheVariants as answer
 use Rattle.replies.specs.declared.Out.{Out}
 use Rattle.replies.specs.declared.FarParty.{FarParty}
-use Rattle.rules.specs.Replies.{ReplyRecord, Reply, octets, drops, told}
+use Rattle.replies.specs.declared.Message.{Message}
+use Rattle.replies.specs.declared.Message.TheVariants.{Facility, Notify}
+use Rattle.replies.specs.declared.Description.{Description}
+use Rattle.replies.specs.declared.Description.TheVariants.{TransferredAlerting, TransferredActive}
+use Rattle.rules.specs.Replies.{ReplyRecord, Reply, octets, drops, told, facility, notify, transferred_alerting, transferred_active}
 
--- the octets of the records, in their order, and zeros behind them
+-- the octets of the records, in their order
 unfoldable pub rendered : List ReplyRecord → Out
-rendered rs = record { octets = octets rs ++ replicate (128 - length (octets rs)) 0; len = length (octets rs) }
+rendered rs = record { octets = record { items = octets rs } }
 
--- the octets written so far
+-- the octets written
 abbrev pub written : Out → List ℕ
-written o = take o.len o.octets
+written o = o.octets.items
 
-abbrev pub blank : Out
-blank = record { octets = replicate 128 0; len = 0 }
+abbrev pub message_number : Message → ℕ
+message_number Facility = facility
+message_number Notify = notify
 
--- r is o with more octets from its length on
-abbrev pub AppendedTo : Out → Out → List ℕ → Type 0
-AppendedTo o r more = Appended o.octets o.len r.octets r.len more
+abbrev pub description_number : Description → ℕ
+description_number TransferredAlerting = transferred_alerting
+description_number TransferredActive = transferred_active
 
--- o with these records, in n octets
-pub record Adds (o r : Out) (rs : List ReplyRecord) (n : ℕ) : Type 0 where
-  pub appended : AppendedTo o r (octets rs)
-  pub room : r.len ≡ o.len + n
+-- 1 asks for a subaddress
+abbrev pub request_number : Bool → ℕ
+request_number false = 0
+request_number true = 1
 
 -- each is told of the other, the named one first
 abbrev pub transfer_tells : FarParty → FarParty → List ReplyRecord

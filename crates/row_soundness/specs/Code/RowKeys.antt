@@ -1,41 +1,43 @@
--- What rows are compared by, as numbers. The rules are those of board/specs/Soundness; proofs/KeyLaws shows that rows compared by these numbers
--- are compared as the rules say.
-use Rattle.std.specs.Prelude.{ℕ, ◌+◌, ◌*◌, Bool, ◌&&◌, eqb, ℤ, pos, negsuc}
-use Rattle.octets.specs.Tests.{bit}
-use Rattle.board.specs.declared.OptionalLinkId.{OptionalLinkId}
-use Rattle.board.specs.declared.OptionalLinkId.TheVariants.{Absent, Present}
-use Rattle.board.specs.declared.Standing.{Standing}
-use Rattle.board.specs.declared.Standing.TheVariants.{Empty, Served, Joined}
-use Rattle.board.specs.declared.Connection.TheVariants.{WithPartner}
+-- What rows are compared by. The rules are those of board/specs/Soundness; proofs/KeyLaws shows that rows compared by these are compared as
+-- the rules say.
+use Rattle.std.specs.Prelude.{ℕ, Bool, ℤ, None, Option, Some}
+use Rattle.octets.specs.Tests.{bind_option}
+use Rattle.board.specs.declared.Connection.{Connection}
+use Rattle.board.specs.declared.Connection.TheVariants.{WithUser, WithPartner}
 use Rattle.board.specs.declared.Entry.{Entry}
+use Rattle.board.specs.declared.Row.{Row}
+use Rattle.board.specs.Entries.{row_entry, reference_of, link_id_of}
 use Rattle.board.specs.Soundness.{answers_to}
-use Rattle.row_soundness.specs.declared.keys.RowKey.{RowKey}
 use Rattle.row_soundness.specs.declared.keys.JoinedLeg.{JoinedLeg}
 
--- a number for each LinkId, and two LinkIds with one number are the same
-abbrev pub link_number : ℤ → ℕ
-link_number (pos n) = n * 2
-link_number (negsuc n) = n * 2 + 1
+-- ---- what an entry is compared by
 
--- ---- what a row with that standing is compared by, all in one: its reference, its LinkId, its partner and whether it alerts
+abbrev pub leg_in : Entry → Option ℕ
+leg_in e = Some e.leg
 
-abbrev pub call_key : ℕ → OptionalLinkId → RowKey
-call_key n Absent = record { served = 1; reference = n; linked = 0; link = 0; joined = 0; partner = 0; alerting = 0 }
-call_key n (Present l) = record { served = 1; reference = n; linked = 1; link = link_number l.0; joined = 0; partner = 0; alerting = 0 }
+abbrev pub reference_in : Entry → Option ℕ
+reference_in e = reference_of e.connection
 
-unfoldable pub key_of : Standing → RowKey
-key_of Empty = record { served = 0; reference = 0; linked = 0; link = 0; joined = 0; partner = 0; alerting = 0 }
-key_of (Served c) = call_key c.reference.0 c.link
-key_of (Joined p a) = record { served = 0; reference = 0; linked = 0; link = 0; joined = 1; partner = p; alerting = bit a }
+abbrev pub link_in : Entry → Option ℤ
+link_in e = link_id_of e.connection
 
--- two numbers that are both there, as their counts say, and the same
-abbrev pub both_same : ℕ → ℕ → ℕ → ℕ → Bool
-both_same j m k n = eqb j 1 && (eqb k 1 && eqb m n)
+abbrev pub joined_leg_of : ℕ → Connection → Option JoinedLeg
+joined_leg_of n (WithUser c) = None
+joined_leg_of n (WithPartner p a) = Some (record { leg = n; partner = p; alerting = a })
+
+abbrev pub joined_in : Entry → Option JoinedLeg
+joined_in e = joined_leg_of e.leg e.connection
+
+-- the same of a row, which has no entry where it is empty
+module _ {A : Type 0} where
+  abbrev pub in_row : (Entry → Option A) → Row → Option A
+  in_row f r = bind_option f (row_entry r)
 
 -- ---- joined legs
 
-abbrev pub joined_entry : ℕ → ℕ → ℕ → Entry
-joined_entry n p a = record { leg = n; connection = WithPartner p (eqb a 1) }
+abbrev pub joined_entry : JoinedLeg → Entry
+joined_entry j = record { leg = j.leg; connection = WithPartner j.partner j.alerting }
 
-abbrev pub answers_joined_leg : JoinedLeg → Entry → Bool
-answers_joined_leg a e = answers_to a.leg a.partner (eqb a.alerting 1) e
+-- the leg b answers to a
+abbrev pub answers_joined : JoinedLeg → JoinedLeg → Bool
+answers_joined a b = answers_to a.leg a.partner a.alerting (joined_entry b)

@@ -1,6 +1,5 @@
 -- The parties of a board, and what the code finds among them.
-use Rattle.std.specs.Prelude.{Bool, List, ℤ}
-use Rattle.std.proofs.Math.Option.{Option}
+use Rattle.std.specs.Prelude.{Bool, List, ℤ, Option}
 use Rattle.octets.specs.declared.LinkId.{LinkId}
 use Rattle.octets.specs.declared.IntegerOctets.{IntegerOctets}
 use Rattle.octets.specs.Lists.{filter, find}

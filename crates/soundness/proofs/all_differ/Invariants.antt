@@ -1,10 +1,9 @@
-use Prim.Native.Nat.{◌≤◌}
-use lib.ListN.{take}
-use Rattle.soundness.proofs.ColumnLaws.{Apart}
+use Rattle.std.proofs.Common.{◌≡◌, length}
+use Rattle.octets.specs.Lists.{distinct}
 use Rattle.soundness.proofs.all_differ.Given as goal
 
-abbrev pub invariant-loop-i : goal.invariant-loop-i
-invariant-loop-i l = (l.i ≤ l.n) × Apart l.marks (take l.n l.column) l.i
+abbrev pub invariant-loop-value : goal.invariant-loop-value
+invariant-loop-value g l = let eq = g.T.PartialEq.eq in distinct eq l.rest ≡ distinct eq l.column
 
-abbrev pub decreases-loop-i : goal.decreases-loop-i
-decreases-loop-i l = l.i
+abbrev pub decreases-loop-value : goal.decreases-loop-value
+decreases-loop-value g l = length l.rest

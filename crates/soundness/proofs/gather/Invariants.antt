@@ -1,5 +1,5 @@
-use Rattle.soundness.proofs.Gathering.{ReadTo}
+use Rattle.soundness.proofs.ColumnLaws.{ReadTo}
 use Rattle.soundness.proofs.gather.Given as goal
 
-abbrev pub invariant-loop-i : goal.invariant-loop-i
-invariant-loop-i l = ReadTo l.rows l.i l.columns
+abbrev pub invariant-loop-row : goal.invariant-loop-row
+invariant-loop-row l = ReadTo l.rows l.row-index l.columns

@@ -7,6 +7,6 @@ unfolding answer_octets
 returns c =
     let s = c.start.ensures.0 in
     let n = c.integer_len-len.ensures.0 in
-    let o = rw c.to_integer.ensures at c.to_octets-o.ensures in
+    let o = rw c.from.ensures at c.from-o.ensures in
     rw (← o)
-    (sequence c.args.id c.to_octets-o.result n s c.push.ensures c.push-2.ensures c.push_object.ensures c.push_integer.ensures.0)
+    (sequence c.args.id c.from-o.result n s c.push.ensures c.push_object.ensures c.push_integer.ensures.0)

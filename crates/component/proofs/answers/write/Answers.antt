@@ -8,7 +8,7 @@ returns-in-Rejected c = rw c.in-Rejected.is c.reject.ensures
 
 pub returns-in-Error : goal.returns-in-Error
 unfolding answer_octets
-returns-in-Error c = rw c.in-Error.is (follow 0xA3 c.in-Error.id c.start.ensures.0 c.push_octet.ensures)
+returns-in-Error c = rw c.in-Error.is (follow 0xA3 c.in-Error.id c.start.ensures.0 c.push.ensures)
 
 pub returns-in-LinkIdNotAssigned : goal.returns-in-LinkIdNotAssigned
 unfolding answer_octets

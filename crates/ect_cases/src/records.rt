@@ -1,0 +1,25 @@
+// The event records of the cases.
+use std::array;
+
+// A record that begins with these octets; the others are zero.
+pub fn padded<const N: usize>(front: &[u8]) -> [u8; N] {
+    array::from_fn(|i| front.get(i).copied().unwrap_or(0))
+}
+
+// Open of a reference and a leg, shown, with two digits.
+pub fn open(reference: u8, leg: u8, incoming: bool, digits: [u8; 2]) -> [u8; 25] {
+    let [a, b] = digits;
+    padded(&[1, 0, reference, 0, 0, 0, leg, incoming as u8, 0, 2, a, b])
+}
+
+// EctExecute on the call with that reference: a1 06, identifier 02 01 05, operation 02 01 06.
+pub fn execute(reference: u8) -> [u8; 36] {
+    padded(&[5, 0, reference, 8, 0xa1, 6, 2, 1, 5, 2, 1, 6])
+}
+
+// The Leg facility of this leg with a subaddress of one octet, 37, in an invoke of the object identifier that ends so.
+pub fn leg_facility(leg: u8, last: u8) -> [u8; 70] {
+    padded(&[
+        7, 0, 0, 0, leg, 16, 0xa1, 14, 2, 1, 5, 6, 6, 4, 0, 0x82, 0x71, 1, last, 4, 1, 0x37,
+    ])
+}

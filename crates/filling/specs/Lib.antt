@@ -1,0 +1,2 @@
+-- What filling a lent buffer means.
+pub mod Code

@@ -1,2 +1,0 @@
--- Definitions that describe the code, for its proofs: no rule stands here.
-pub mod Found

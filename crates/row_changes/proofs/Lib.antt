@@ -1,2 +1,0 @@
--- Laws for the proofs of this crate.
-pub mod Standings
