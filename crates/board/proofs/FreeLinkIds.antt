@@ -1,6 +1,6 @@
 -- The LinkIds that are live, by the rows that have them, and one step of the search for one that is free.
 use Rattle.std.specs.Prelude.{None, Option, Some}
-use Prim.Native.Nat.{ℕ, suc, ◌+◌, ◌-◌, ◌≤◌, ◌<◌}
+use Prim.Native.Nat.{ℕ, suc, ◌+◌, ◌-◌, ◌<◌}
 use native.Mathlib.Omega.{arith}
 use mathlib.Core.Path.{◌≡◌, refl, sym, ap, ◌∙◌}
 use mathlib.Core.Bool.{Bool, true, false}
@@ -8,7 +8,7 @@ use mathlib.Core.List.{List}
 use lib.IntN.{ℤ}
 use Rattle.octets.specs.declared.LinkId.{LinkId}
 use Rattle.octets.specs.Numbers.{same_integer, next_link_id}
-use Rattle.octets.specs.Lists.{any, filter_map, place_from}
+use Rattle.octets.specs.Lists.{any, filter_map}
 use Rattle.octets.proofs.Lists.{any_ext}
 use Rattle.octets.proofs.Places.{any_filter_map, filter_map_filter_map, filter_map_ext}
 use Rattle.board.specs.declared.Row.{Row}
@@ -16,7 +16,7 @@ use Rattle.board.specs.declared.finding.Key.TheVariants as key
 use Rattle.board.specs.Entries.{Connection, WithUser, WithPartner, Entry, Party, taken, party_of, calls, link_id_in, link_id_of, is_link_id, has_link_id}
 use Rattle.board.specs.Code.Keys.{matches_key}
 use Rattle.board.specs.LinkIds.{live, unless_live, free_link_id}
-use Rattle.board.proofs.Searches.{key_nowhere, key_somewhere, any_link_id}
+use Rattle.board.proofs.Searches.{any_link_id}
 use Rattle.octets.specs.Tests.{has, bind_option}
 
 is_link_id_lem : (z : ℤ) (o : Option ℤ) → has (same_integer z) o ≡ is_link_id z o
@@ -46,23 +46,20 @@ live_rows l rows = live_any l.0 (taken rows) ∙ any_link_id l rows
 -- ---- one step of the search, at value k of n
 
 module _ (l : LinkId) (rows : List Row) (n k : ℕ) (h : k < n) where
-  pub free_here : place_from (matches_key (key.LinkId l)) 0 rows ≡ None → Some l.0 ≡ free_link_id (n - k) l.0 (live (calls (taken rows)))
+  pub free_here : any (matches_key (key.LinkId l)) rows ≡ false → Some l.0 ≡ free_link_id (n - k) l.0 (live (calls (taken rows)))
   free_here e =
       let s : n - k ≡ suc (n - (k + 1)) = omega arith in
-      let v : any (same_integer l.0) (live (calls (taken rows))) ≡ false = live_rows l rows ∙ key_nowhere (key.LinkId l) rows e in
+      let v : any (same_integer l.0) (live (calls (taken rows))) ≡ false = live_rows l rows ∙ e in
       sym
       (ap (λ (m : ℕ). free_link_id m l.0 (live (calls (taken rows)))) s
       ∙ ap (λ (b : Bool). unless_live b l.0 (free_link_id (n - (k + 1)) (next_link_id l.0) (live (calls (taken rows))))) v)
 
-  pub free_next : (i : ℕ) → place_from (matches_key (key.LinkId l)) 0 rows ≡ Some i →
+  pub free_next : any (matches_key (key.LinkId l)) rows ≡ true →
       free_link_id (n - (k + 1)) (next_link_id l.0) (live (calls (taken rows))) ≡ free_link_id (n - k) l.0 (live (calls (taken rows)))
-  free_next i e =
+  free_next e =
       let s : n - k ≡ suc (n - (k + 1)) = omega arith in
       let v : any (same_integer l.0) (live (calls (taken rows))) ≡ true =
-      live_rows l rows ∙ key_somewhere (key.LinkId l) rows i e in
+      live_rows l rows ∙ e in
       sym
       (ap (λ (m : ℕ). free_link_id m l.0 (live (calls (taken rows)))) s
       ∙ ap (λ (b : Bool). unless_live b l.0 (free_link_id (n - (k + 1)) (next_link_id l.0) (live (calls (taken rows))))) v)
-
-pub free_end : (z : ℤ) (used : List ℤ) (n k : ℕ) → n ≤ k → None ≡ free_link_id (n - k) z used
-free_end z used n k h = let s : n - k ≡ 0 = omega arith in sym (ap (λ (m : ℕ). free_link_id m z used) s)

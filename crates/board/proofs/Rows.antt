@@ -8,49 +8,18 @@ use lib.Dec.{eqb, leb}
 use lib.ListN.{length}
 use Rattle.octets.specs.Lists.{any, all, filter, distinct}
 use Rattle.octets.specs.Tests.{has, none_or}
-use Rattle.octets.proofs.Lists.{any_of, filter_ext, same_tests, true_not_false}
+use Rattle.octets.proofs.Lists.{any_of, filter_ext, same_tests}
 use Rattle.octets.proofs.Loops.{all_filter_map, any_filter_map, distinct_filter_map, all_and, any_and, all_same, distinct_or, length_filter_map, length_filter_filter_map}
 use Rattle.board.specs.declared.Standing.{Standing}
 use Rattle.board.specs.declared.Standing.TheVariants.{Empty, Served, Joined}
-use Rattle.board.specs.declared.PartyNumber.{PartyNumber}
 use Rattle.board.specs.declared.Row.{Row}
 use Rattle.board.specs.Entries.{Connection, WithUser, WithPartner, Entry, entry_of, row_entry, taken, occupied, linked, is_joined, link_ids}
 use Rattle.board.specs.LinkIds.{most_link_ids}
-use Rattle.board.specs.Soundness.{valid_row, valid_entry, valid_number, valid_standing, same_legs, same_references, same_link_ids, answers_to, valid_partner, partnered, sound_entries, sound_rows}
+use Rattle.board.specs.Soundness.{valid_row, valid_entry, same_legs, same_references, same_link_ids, answers_to, valid_partner, partnered, sound_entries, sound_rows}
 use Rattle.board.specs.Code.RowTests.{fits, sharing, clashing, clash, partnered_by, paired, taken_row, joined_row, linked_row}
 use Rattle.board.specs.Code.Tallies.{tally_of}
 
-pub and_true : (b : Bool) → (b && true) ≡ b
-and_true true = refl
-and_true false = refl
-
-pub and_false : (b : Bool) → (b && false) ≡ false
-and_false true = refl
-and_false false = refl
-
 -- ---- one row
-
-pub taken_number : (leg : ℕ) (n : PartyNumber) (s : Standing) → occupied s ≡ true → valid_standing leg n s ≡ valid_number n
-taken_number leg n Empty e = absurd (true_not_false e refl)
-taken_number leg n (Served c) e = refl
-taken_number leg n (Joined q a) e = refl
-
-pub empty_standing : (s : Standing) → occupied s ≡ false → s ≡ Empty
-empty_standing Empty e = refl
-empty_standing (Served c) e = absurd (true_not_false refl e)
-empty_standing (Joined q a) e = absurd (true_not_false refl e)
-
-pub taken_fits : (r : Row) → occupied r.standing ≡ true → none_or valid_entry (row_entry r) ≡ true → fits r ≡ valid_number r.number
-unfolding fits valid_row
-taken_fits r t e = rw (e, taken_number r.leg r.number r.standing t) (and_true _)
-
-pub unfit_call : (r : Row) → none_or valid_entry (row_entry r) ≡ false → fits r ≡ false
-unfolding fits
-unfit_call r e = rw e (and_false (valid_row r))
-
-pub empty_row_fits : (r : Row) → occupied r.standing ≡ false → fits r ≡ valid_standing r.leg r.number Empty
-unfolding fits valid_row
-empty_row_fits r t = rw (empty_standing r.standing t) (and_true _)
 
 -- ---- all rows
 
@@ -115,9 +84,6 @@ sound_by_rows rows = rw (fits_all rows, clash_all rows, paired_all rows) (and_fo
     (distinct same_link_ids (taken rows))
     (leb (link_ids (taken rows)) most_link_ids)
     (all (partnered (taken rows)) (taken rows)))
-
-pub unfit_rows : (rows : List Row) → all fits rows ≡ false → sound_rows rows ≡ false
-unfit_rows rows e = rw (sound_by_rows rows, e)
 
 -- ---- counts
 

@@ -1,21 +1,19 @@
 -- The row that a search finds, against the definitions: the entry or the party that they look up is that of the row found, and the lowest empty
 -- row is the one that Open stores to.
 use Rattle.std.specs.Prelude.{None, Option, Some, option_map}
-use Prim.Native.Nat.{ℕ, zero, suc, ◌+◌, ◌≤◌, ◌<◌, zero-le, suc-le-suc}
+use Prim.Native.Nat.{ℕ, zero, suc, zero-le, suc-le-suc}
 use native.Mathlib.Nat.{le_of_suc-le-suc, not-suc-le-zero}
-use native.Mathlib.Numerals.{add-one}
 use native.Mathlib.Omega.{arith}
-use mathlib.Core.Path.{◌≡◌, refl, sym, ap, ap₂, ◌∙◌}
+use mathlib.Core.Path.{◌≡◌, refl, sym, ap, ◌∙◌}
 use mathlib.Core.Bool.{Bool, true, false, ◌&&◌, ◌||◌, not}
 use mathlib.Core.List.{List, [], ◌∷◌}
 use lib.Dec.{eqb}
-use lib.ListN.{length, get_or, set, take, drop, drop_of_length-le}
-use lib.Seq.{drop-cons, take_all}
+use lib.ListN.{get_or, set}
 use Rattle.octets.specs.declared.CallReference.{CallReference}
 use Rattle.octets.specs.declared.LinkId.{LinkId}
 use Rattle.octets.specs.Lists.{any, find, filter_map, place_from, or_else}
 use Rattle.octets.proofs.Lists.{is_not, any_ext}
-use Rattle.octets.proofs.Places.{told, Lowest, place_cons, place_lowest, place_none, place_some, none_place, place_ext, value_at, find_filter_map, any_filter_map, filter_map_filter_map}
+use Rattle.octets.proofs.Places.{Lowest, place_cons, place_lowest, place_none, place_ext, value_at, find_filter_map, any_filter_map, filter_map_filter_map}
 use Rattle.board.specs.declared.Standing.{Standing}
 use Rattle.board.specs.declared.Standing.TheVariants.{Empty, Served, Joined}
 use Rattle.board.specs.declared.Row.{Row}
@@ -24,44 +22,10 @@ use Rattle.board.specs.declared.finding.Key.TheVariants as key
 use Rattle.board.specs.Entries.{Entry, Party, entry_of, row_entry, taken, occupied, party_of, calls, has_leg, has_reference, has_link_id, row_party, has_party_reference, has_party_link_id}
 use Rattle.board.specs.Lookup.{is_call_of}
 use Rattle.board.specs.Code.Keys.{is_empty, matches_key, has_link_id_of}
-use Rattle.board.specs.Making.{empty_row}
-use Rattle.board.specs.Changes.{enter, enter_at, full}
+use Rattle.board.specs.Changes.{enter, enter_at}
 use Rattle.octets.specs.Tests.{has, bind_option}
 
 -- ---- the answer of a search
-
--- a loop that looks for the first element: from its test of element i to the search of what is left
-module _ {A : Type 0} (p : A → Bool) (l : List A) (i : ℕ) where
-  module _ (d : A) (r : Bool) (h : i < length l) (e : r ≡ p (get_or l i d)) where
-    pub first_yes : r ≡ true → Some (get_or l i d) ≡ find p (drop i l)
-    first_yes t = rw (drop-cons l i d h, told e t)
-
-    pub first_no : r ≡ false → find p (drop (i + 1) l) ≡ find p (drop i l)
-    first_no t = rw (drop-cons l i d h, told e t, add-one)
-
-  pub first_end : length l ≤ i → None ≡ find p (drop i l)
-  first_end h = rw (drop_of_length-le l h)
-
--- a loop that asks whether some element passes: those before i, and then element i
-module _ {A : Type 0} (p : A → Bool) where
-  any_next : (l : List A) (i : ℕ) (d : A) → i < length l → (any p (take i l) || p (get_or l i d)) ≡ any p (take (suc i) l)
-  any_next [] i d h = absurd (not-suc-le-zero h)
-  any_next (x ∷ l) zero d h = go (p x)
-    where
-      go : (b : Bool) → b ≡ (b || false)
-      go true = refl
-      go false = refl
-  any_next (x ∷ l) (suc i) d h = go (p x) (any_next l i d (le_of_suc-le-suc h))
-    where
-      go : (b : Bool) → (any p (take i l) || p (get_or l i d)) ≡ any p (take (suc i) l) → ((b || any p (take i l)) || p (get_or l i d)) ≡ (b || any p (take (suc i) l))
-      go true e = refl
-      go false e = e
-
-  pub any_more : (l : List A) (i : ℕ) (d : A) {b r : Bool} → i < length l → b ≡ any p (take i l) → r ≡ p (get_or l i d) → (b || r) ≡ any p (take (i + 1) l)
-  any_more l i d h e f = ap₂ (λ (x y : Bool). x || y) e f ∙ any_next l i d h ∙ ap (λ (n : ℕ). any p (take n l)) (sym (add-one i))
-
-  pub any_end : (l : List A) (i : ℕ) {b : Bool} → length l ≤ i → b ≡ any p (take i l) → b ≡ any p l
-  any_end l i h e = e ∙ ap (any p) (take_all i l h)
 
 -- the element at a place, if there is one
 module _ {A : Type 0} (d : A) where
@@ -89,9 +53,6 @@ key_lowest k rows d i e = place_lowest (matches_key k) d rows i e
 
 pub key_nowhere : (k : Key) (rows : List Row) → place_from (matches_key k) 0 rows ≡ None → any (matches_key k) rows ≡ false
 key_nowhere k rows e = place_none (matches_key k) rows e
-
-pub key_somewhere : (k : Key) (rows : List Row) (i : ℕ) → place_from (matches_key k) 0 rows ≡ Some i → any (matches_key k) rows ≡ true
-key_somewhere k rows i e = place_some (matches_key k) rows i e
 
 -- ---- the entry that the definitions look up is that of the row found
 
@@ -125,23 +86,6 @@ entry_found_lem q p rows d f = find_filter_map q row_entry d rows ∙ ap (value_
 
 pub entry_by_leg : (n : ℕ) (rows : List Row) (d : Row) → find (has_leg n) (taken rows) ≡ value_at row_entry d rows (place_from (matches_key (key.Leg n)) 0 rows)
 entry_by_leg n rows d = entry_found_lem (has_leg n) (matches_key (key.Leg n)) rows d (leg_test n)
-
-pub entry_by_reference : (r : CallReference) (rows : List Row) (d : Row) →
-    find (has_reference r.0) (taken rows) ≡ value_at row_entry d rows (place_from (matches_key (key.Reference r)) 0 rows)
-entry_by_reference r rows d = entry_found_lem (has_reference r.0) (matches_key (key.Reference r)) rows d (reference_test r)
-
-pub entry_by_link_id : (l : LinkId) (rows : List Row) (d : Row) →
-    find (has_link_id l.0) (taken rows) ≡ value_at row_entry d rows (place_from (matches_key (key.LinkId l)) 0 rows)
-entry_by_link_id l rows d = entry_found_lem (has_link_id l.0) (matches_key (key.LinkId l)) rows d (link_id_test l)
-
--- the same, by the answer of the search
-
-pub leg_at : (n : ℕ) (rows : List Row) (d : Row) (i : ℕ) → place_from (matches_key (key.Leg n)) 0 rows ≡ Some i →
-    find (has_leg n) (taken rows) ≡ row_entry (get_or rows i d)
-leg_at n rows d i e = entry_by_leg n rows d ∙ ap (value_at row_entry d rows) e
-
-pub leg_nowhere : (n : ℕ) (rows : List Row) → place_from (matches_key (key.Leg n)) 0 rows ≡ None → find (has_leg n) (taken rows) ≡ None
-leg_nowhere n rows e = entry_by_leg n rows empty_row ∙ ap (value_at row_entry empty_row rows) e
 
 -- ---- some entry has a leg, a reference or a LinkId where some row has it
 
@@ -191,26 +135,6 @@ pub party_by_link_id : (l : LinkId) (rows : List Row) (d : Row) →
     find (has_party_link_id l.0) (calls (taken rows)) ≡ value_at row_party d rows (place_from (matches_key (key.LinkId l)) 0 rows)
 party_by_link_id l rows d = party_found_lem (has_party_link_id l.0) (matches_key (key.LinkId l)) rows d (party_link_id_test l)
 
--- the same, by the answer of the search
-
-pub reference_at : (r : CallReference) (rows : List Row) (d : Row) (i : ℕ) → place_from (matches_key (key.Reference r)) 0 rows ≡ Some i →
-    find (has_party_reference r.0) (calls (taken rows)) ≡ row_party (get_or rows i d)
-reference_at r rows d i e = party_by_reference r rows d ∙ ap (value_at row_party d rows) e
-
-pub reference_nowhere : (r : CallReference) (rows : List Row) → place_from (matches_key (key.Reference r)) 0 rows ≡ None →
-    find (has_party_reference r.0) (calls (taken rows)) ≡ None
-reference_nowhere r rows e =
-    party_by_reference r rows empty_row ∙ ap (value_at row_party empty_row rows) e
-
-pub link_id_at : (l : LinkId) (rows : List Row) (d : Row) (i : ℕ) → place_from (matches_key (key.LinkId l)) 0 rows ≡ Some i →
-    find (has_party_link_id l.0) (calls (taken rows)) ≡ row_party (get_or rows i d)
-link_id_at l rows d i e = party_by_link_id l rows d ∙ ap (value_at row_party d rows) e
-
-pub link_id_nowhere : (l : LinkId) (rows : List Row) → place_from (matches_key (key.LinkId l)) 0 rows ≡ None →
-    find (has_party_link_id l.0) (calls (taken rows)) ≡ None
-link_id_nowhere l rows e =
-    party_by_link_id l rows empty_row ∙ ap (value_at row_party empty_row rows) e
-
 -- ---- Open: the lowest empty row is stored to
 
 pub enter_at_lem : (new : Row) (rows : List Row) (d : Row) (i : ℕ) → Lowest is_empty d rows i → enter new rows ≡ set rows i new
@@ -232,8 +156,3 @@ enter_full new (x ∷ rows) e = go (occupied x.standing) e (enter_full new rows)
     go : (b : Bool) → (not b || any is_empty rows) ≡ false → (any is_empty rows ≡ false → enter new rows ≡ rows) → enter_at b new x rows (enter new rows) ≡ x ∷ rows
     go true q f = ap (λ (r : List Row). x ∷ r) (f q)
     go false q f = let z : ◌≡◌ {A = ℕ} 0 1 = cc in absurd (omega arith)
-
--- ---- where no row is empty, the search for one finds none
-
-pub full_nowhere : (rows : List Row) → full rows ≡ true → place_from (matches_key key.Empty) 0 rows ≡ None
-full_nowhere rows e = none_place is_empty rows (is_not e)

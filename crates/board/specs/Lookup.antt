@@ -4,7 +4,6 @@ use Rattle.octets.specs.Lists.{place_from}
 use Rattle.board.specs.declared.Standing.{Standing}
 use Rattle.board.specs.declared.Standing.TheVariants.{Empty, Served, Joined}
 use Rattle.board.specs.declared.Row.{Row}
-use Rattle.board.specs.Making.{empty_row}
 
 -- "a call of that reference"
 abbrev pub is_call_of : ℕ → Standing → Bool
@@ -14,11 +13,6 @@ is_call_of r (Joined p a) = false
 
 abbrev pub has_call_of : ℕ → Row → Bool
 has_call_of r row = is_call_of r row.standing
-
--- the row found, or an empty one
-abbrev pub found_row : Option Row → Row
-found_row None = empty_row
-found_row (Some r) = r
 
 -- what lookup gives: a number and a place
 pub record LookupAnswer : Type 0 where

@@ -2,28 +2,21 @@
 ghost use Rattle.std.specs.Prelude.{◌≡◌};
 ghost use Rattle.octets.specs.Lists.{any, place_from, find as find_in};
 ghost use Rattle.board.specs.Entries.{occupied, taken, calls, link_id_in, is_link_id};
-ghost use Rattle.board.specs.Lookup.{is_call_of, found_row, found_answer, lookup as lookup_rows};
-ghost use Rattle.board.specs.Code.Keys.{has_link_id_of, matches_key, open_check_of};
+ghost use Rattle.board.specs.Lookup.{is_call_of, found_answer, lookup as lookup_rows};
+ghost use Rattle.board.specs.Code.Keys.{has_link_id_of, matches_key};
 ghost use Rattle.board.specs.LinkIds.{most_link_ids, live, free_link_id, optional_link_id};
 
-use crate::{Board, MOST_LINK_IDS, Row, Standing, empty_row};
+use crate::{Board, MOST_LINK_IDS, Row, Standing};
 use octets::{CallReference, LinkId};
 
 // What a row is found by: its call's reference, its leg, its call's LinkId; or that it is empty.
+// Data: contracts say `matches_key key`. Of a closure each caller would have to show what it returns.
 #[derive(Clone, Copy)]
 pub enum Key {
     Reference(CallReference),
     Leg(u32),
     LinkId(LinkId),
     Empty,
-}
-
-// Whether a row has the leg, whether a call has the reference, and whether a row is empty.
-#[derive(Clone, Copy)]
-pub struct OpenCheck {
-    pub leg: bool,
-    pub reference: bool,
-    pub empty: bool,
 }
 
 pub fn is_occupied(standing: Standing) -> bool
@@ -38,19 +31,10 @@ pub fn is_call_of(standing: Standing, reference: CallReference) -> bool
     matches!(standing, Standing::Served(call) if reference == call.reference)
 }
 
-fn is_link_id(link: Option<LinkId>, id: LinkId) -> bool
-    ensures { result ≡ is_link_id id.0 (link_id_in link) }
-{
-    matches!(link, Some(own) if id == own)
-}
-
 fn has_link_id(standing: Standing, id: LinkId) -> bool
     ensures { result ≡ has_link_id_of id.0 standing }
 {
-    match standing {
-        Standing::Served(call) => is_link_id(call.link, id),
-        _ => false,
-    }
+    matches!(standing, Standing::Served(call) if call.link == Some(id))
 }
 
 fn matches(row: Row, key: Key) -> bool
@@ -58,66 +42,52 @@ fn matches(row: Row, key: Key) -> bool
 {
     match key {
         Key::Reference(reference) => is_call_of(row.standing, reference),
-        Key::Leg(leg) => is_occupied(row.standing) & (leg == row.leg),
+        Key::Leg(leg) => is_occupied(row.standing) && leg == row.leg,
         Key::LinkId(id) => has_link_id(row.standing, id),
         Key::Empty => !is_occupied(row.standing),
     }
 }
 
 // The lowest place, counted from 0, whose row has the key.
-pub fn find(board: Board, key: Key) -> Option<usize>
-    ensures { result ≡ place_from (matches_key key) 0 board.rows }
+pub fn find(rows: &[Row], key: Key) -> Option<usize>
+    ensures { result ≡ place_from (matches_key key) 0 rows.now }
 {
-    board.rows.iter().position(|row| matches(*row, key))
+    rows.iter().position(|row| matches(*row, key))
 }
 
-// The lowest row that has the key, or an empty row where none has it.
-pub fn find_row(board: Board, key: Key) -> Row
-    ensures { result ≡ found_row (find_in (matches_key key) board.rows) }
+// The lowest row that has the key.
+pub fn find_row(rows: &[Row], key: Key) -> Option<Row>
+    ensures { result ≡ find_in (matches_key key) rows.now }
 {
-    board
-        .rows
-        .iter()
-        .copied()
-        .find(|row| matches(*row, key))
-        .unwrap_or(empty_row())
+    rows.iter().copied().find(|row| matches(*row, key))
 }
 
-fn has(rows: &[Row], key: Key) -> bool
+// Whether a row has the key.
+pub fn has(rows: &[Row], key: Key) -> bool
     ensures { result ≡ any (matches_key key) rows.now }
 {
     rows.iter().any(|row| matches(*row, key))
 }
 
-// All that an Open asks of the rows.
-pub fn check_open(board: Board, leg: u32, reference: CallReference) -> OpenCheck
-    ensures { result ≡ open_check_of leg reference board.rows }
-{
-    OpenCheck {
-        leg: has(&board.rows, Key::Leg(leg)),
-        reference: has(&board.rows, Key::Reference(reference)),
-        empty: has(&board.rows, Key::Empty),
-    }
-}
-
 // The lowest place, counted from 0, with a call of that reference.
+#[tactic(auto, using(crate::proofs::Answers::place_answer), unfolding(crate::specs::Lookup::lookup))]
 pub fn lookup(board: Board, reference: CallReference) -> Option<usize>
     ensures { found_answer result ≡ lookup_rows reference.0 board.rows }
 {
-    find(board, Key::Reference(reference))
+    find(&board.rows, Key::Reference(reference))
 }
 
 // The first LinkId that is not live, from `first` upward. With fewer than the most live, one of that many values is
-// free.
+// free. The range counts tries, and indexes nothing.
 fn free_from(board: Board, first: LinkId) -> Option<LinkId>
     ensures { result ≡ optional_link_id (free_link_id most_link_ids first.0 (live (calls (taken board.rows)))) }
 {
     let mut id = first;
-    for k in 0..MOST_LINK_IDS {
-        match find(board, Key::LinkId(id)) {
-            None => return Some(id),
-            Some(_) => id = id.next(),
+    for _ in 0..MOST_LINK_IDS {
+        if !has(&board.rows, Key::LinkId(id)) {
+            return Some(id);
         }
+        id = id.next();
     }
     None
 }

@@ -2,11 +2,14 @@
 #![tactic(auto)]
 
 ghost use Rattle.std.specs.Prelude.{◌≡◌};
-ghost use Rattle.board.specs.Soundness.{valid_digits, valid_options};
+ghost use Rattle.board.specs.States.{direction_in, auxiliary_in, valid_reference};
+ghost use Rattle.board.specs.Soundness.{valid_digits, valid_number, valid_options};
+ghost use Rattle.board.specs.Code.Tallies.{counts_in};
 ghost use Rattle.board.specs.Making.{empty_row, empty_board, made_answer, fresh as fresh_board};
 
 use digits::{all_digits, all_zeros};
 use octets::{CallReference, LinkId};
+use thiserror::Error;
 
 pub mod finding;
 
@@ -14,14 +17,28 @@ pub mod finding;
 pub const MOST_LINK_IDS: usize = 16;
 
 // 0 outgoing, 1 incoming.
-#[derive(Clone, Copy, PartialEq, Eq)]
+#[derive(Clone, Copy, Debug, PartialEq, Eq)]
 pub enum Direction {
     Outgoing,
     Incoming,
 }
 
+impl TryFrom<u8> for Direction {
+    type Error = OutOfRange;
+
+    ghost try_from_gives = { λ octet result. result ≡ direction_in octet };
+
+    fn try_from(octet: u8) -> Result<Self, OutOfRange> {
+        match octet {
+            0 => Ok(Direction::Outgoing),
+            1 => Ok(Direction::Incoming),
+            _ => Err(OutOfRange),
+        }
+    }
+}
+
 // The call states of ETS 300 102-1 that a served call can have: 3, 4, 7 and 10.
-#[derive(Clone, Copy, PartialEq, Eq)]
+#[derive(Clone, Copy, Debug, PartialEq, Eq)]
 pub enum CallState {
     OutgoingCallProceeding,
     CallDelivered,
@@ -30,7 +47,7 @@ pub enum CallState {
 }
 
 // The auxiliary states, 0 to 3.
-#[derive(Clone, Copy, PartialEq, Eq)]
+#[derive(Clone, Copy, Debug, PartialEq, Eq)]
 pub enum AuxiliaryState {
     Idle,
     HoldRequest,
@@ -38,8 +55,29 @@ pub enum AuxiliaryState {
     RetrieveRequest,
 }
 
+impl TryFrom<u8> for AuxiliaryState {
+    type Error = OutOfRange;
+
+    ghost try_from_gives = { λ octet result. result ≡ auxiliary_in octet };
+
+    fn try_from(octet: u8) -> Result<Self, OutOfRange> {
+        match octet {
+            0 => Ok(AuxiliaryState::Idle),
+            1 => Ok(AuxiliaryState::HoldRequest),
+            2 => Ok(AuxiliaryState::CallHeld),
+            3 => Ok(AuxiliaryState::RetrieveRequest),
+            _ => Err(OutOfRange),
+        }
+    }
+}
+
+// The refusal to read an octet as a direction or an auxiliary state: none has that number.
+#[derive(Clone, Copy, Debug, PartialEq, Eq, Error)]
+#[error("no direction or auxiliary state has that number")]
+pub struct OutOfRange;
+
 // A call of a far party with the served user.
-#[derive(Clone, Copy)]
+#[derive(Clone, Copy, Debug)]
 pub struct Call {
     pub reference: CallReference,
     pub direction: Direction,
@@ -49,7 +87,7 @@ pub struct Call {
 }
 
 // The standing of a row: empty, a call with the served user, or joined with the leg of a partner.
-#[derive(Clone, Copy)]
+#[derive(Clone, Copy, Debug)]
 pub enum Standing {
     Empty,
     Served(Call),
@@ -57,7 +95,8 @@ pub enum Standing {
 }
 
 // The number of a far party: its presentation (0 shown, 1 restricted), and as many digits as the count says.
-#[derive(Clone, Copy)]
+// Octets and a count, as a board that is lent may hold any, and soundness judges it.
+#[derive(Clone, Copy, Debug)]
 pub struct PartyNumber {
     pub presentation: u8,
     pub count: u8,
@@ -65,22 +104,23 @@ pub struct PartyNumber {
 }
 
 // A row: the leg number of a far party, its number, and beside it the standing.
-#[derive(Clone, Copy)]
+#[derive(Clone, Copy, Debug)]
 pub struct Row {
     pub leg: u32,
     pub number: PartyNumber,
     pub standing: Standing,
 }
 
-// Octets, so that a board may hold any and soundness speaks of them.
-#[derive(Clone, Copy)]
+// Octets, as in a PartyNumber.
+#[derive(Clone, Copy, Debug)]
 pub struct Options {
     pub subscribed: u8,
     pub alerting: u8,
 }
 
-#[derive(Clone, Copy)]
+#[derive(Clone, Copy, Debug)]
 pub struct Board {
+    // By value: fixed memory, no heap.
     pub rows: [Row; 64],
     pub options: Options,
     pub candidate: LinkId,
@@ -110,6 +150,7 @@ pub struct Party {
 
 // A change that an accepted event makes to rows that are taken: of the call with a reference its call state,
 // its auxiliary state or its LinkId; two legs joined; a leg's alerting ended; a leg's row emptied, or a pair's.
+// A closed set of data, on which definitions, book and history match too.
 #[derive(Clone, Copy)]
 pub enum Change {
     SetState(CallReference, CallState),
@@ -122,7 +163,8 @@ pub enum Change {
 }
 
 // The refusal to make a board, an option being neither 0 nor 1. It brings the empty board with both options 0.
-#[derive(Clone, Copy)]
+#[derive(Clone, Copy, Debug, Error)]
+#[error("an option is neither 0 nor 1")]
 pub struct BadOptions {
     pub board: Board,
 }
@@ -143,8 +185,21 @@ pub struct Counts {
     pub links: usize,
 }
 
+impl From<Tally> for Counts {
+    ghost from_gives = { λ tally counts. counts ≡ counts_in tally };
+
+    fn from(tally: Tally) -> Counts {
+        Counts {
+            legs: tally.legs,
+            pairs: tally.joined / 2,
+            links: tally.links,
+        }
+    }
+}
+
 // The refusal to count: the rows are not sound.
-#[derive(Clone, Copy, PartialEq, Eq)]
+#[derive(Clone, Copy, Debug, PartialEq, Eq, Error)]
+#[error("the rows are not sound")]
 pub struct Unsound;
 
 pub fn empty_row() -> Row
@@ -181,11 +236,25 @@ pub fn valid_digits(count: u8, digits: &[u8; 15]) -> bool
     n <= 15 && all_digits(&digits[..n]) && all_zeros(&digits[n..])
 }
 
+// Not zero in the low 15 bits.
+pub fn valid_reference(reference: CallReference) -> bool
+    ensures { result ≡ valid_reference reference.0 }
+{
+    reference.0 % 32768 != 0
+}
+
+// Shown or restricted, with digits that are valid.
+pub fn valid_number(number: PartyNumber) -> bool
+    ensures { result ≡ valid_number number }
+{
+    number.presentation <= 1 && valid_digits(number.count, &number.digits)
+}
+
 // Options are 0 or 1.
 pub fn valid_options(options: Options) -> bool
     ensures { result ≡ valid_options options }
 {
-    (options.subscribed <= 1) & (options.alerting <= 1)
+    options.subscribed <= 1 && options.alerting <= 1
 }
 
 // A fresh board of two option octets, each 0 or 1.

@@ -6,8 +6,8 @@ use hex::FromHexError;
 use invokes::write_invoke;
 use octets::InvokeIdentifier;
 use std::alloc::Global;
-use std::error::Error;
 use std::fmt;
+use thiserror::Error;
 
 // A component that is read, or an answer or an invoke that is written.
 #[derive(Drop)]
@@ -18,26 +18,17 @@ pub enum Coding {
 }
 
 // What is wrong with the two fields of a coding.
-#[derive(Clone, Copy, Debug)]
+#[derive(Clone, Copy, Debug, Error)]
 pub enum Complaint {
+    #[error("{0}")]
     Octets(FromHexError),
+    #[error("more than 32 octets")]
     TooLong,
+    #[error("no such answer")]
     NoSuchAnswer,
+    #[error("no such invoke")]
     NoSuchInvoke,
 }
-
-impl fmt::Display for Complaint {
-    fn fmt<W: fmt::Write>(&self, f: &mut fmt::Formatter<W>) -> fmt::Result {
-        match self {
-            Complaint::Octets(error) => write!(f, "{error}"),
-            Complaint::TooLong => write!(f, "more than 32 octets"),
-            Complaint::NoSuchAnswer => write!(f, "no such answer"),
-            Complaint::NoSuchInvoke => write!(f, "no such invoke"),
-        }
-    }
-}
-
-impl Error for Complaint {}
 
 impl Coding {
     // What the list's second field says. The octets count where they are read; those of what is written are held to
@@ -73,7 +64,7 @@ impl fmt::Display for Coding {
             }
             Coding::Answered(answer) => {
                 let component = component::encode(*answer);
-                let octets = front(&component.octets, component.count as usize);
+                let octets = front(&component.octets, usize::from(component.count));
                 write!(f, "{} ; answer {}", Hex(octets), Shown(*answer))
             }
             Coding::Written(identifier, asked) => {

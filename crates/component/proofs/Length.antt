@@ -1,9 +1,8 @@
 -- How long answers are. Assumes nothing.
-use Prim.Native.Nat.{ℕ, ◌≤◌}
+use Prim.Native.Nat.{◌≤◌}
 use native.Mathlib.Omega.{arith}
-use mathlib.Core.Path.{◌≡◌}
-use mathlib.Core.List.{List, ◌++◌}
-use lib.ListN.{length, length-append, length-replicate}
+use mathlib.Core.List.{◌++◌}
+use lib.ListN.{length}
 use Rattle.octets.specs.declared.IntegerOctets.{IntegerOctets}
 use Rattle.octets.specs.declared.IntegerOctets.TheVariants.{One, Two}
 use Rattle.octets.specs.Numbers.{fewest}
@@ -12,7 +11,7 @@ use Rattle.component.specs.declared.Reject.TheVariants.{Null, General, Invoke}
 use Rattle.component.specs.declared.Answer.{Answer}
 use Rattle.component.specs.declared.Answer.TheVariants as answer
 use Rattle.component.specs.Reading.{ect_object}
-use Rattle.component.specs.Answers.{element, integer, reject_octets, answer_octets, filled}
+use Rattle.component.specs.Answers.{element, integer, reject_octets, answer_octets}
 
 reject_length : (r : Reject) → length (reject_octets r) ≤ 32
 reject_length (Null p) = omega arith
@@ -38,7 +37,3 @@ answer_length (answer.LinkIdNotAssigned (Two a b)) = omega arith
 answer_length (answer.Result (One a)) = omega arith
 answer_length (answer.Result (Two a b)) = omega arith
 answer_length (answer.LinkIdResult i l) = result_length i (fewest l.0)
-
--- and, zero filled, is as long
-pub filled_length : (c : List ℕ) → length c ≤ 32 → length (filled c) ≡ 32
-filled_length c h = simp (length-append, length-replicate) (omega (arith, h))

@@ -1,56 +1,14 @@
-// The octets of an answer, put one after the other into a component.
-ghost use Rattle.std.specs.Prelude.{◌≡◌, [], ◌+◌, ◌≤◌, length};
+// The octets of an answer, put one after the other into a buffer that has room for them.
+ghost use Rattle.std.specs.Prelude.{◌≡◌, ◌≤◌, length};
+ghost use Rattle.filling.specs.Code.Putting.{HasRoom, Put};
 ghost use Rattle.component.specs.declared.Answer.TheVariants.{LinkIdResult};
-ghost use Rattle.component.specs.Answers.{element, integer, reject_octets, answer_octets};
-ghost use Rattle.component.specs.Reading.{ect_object};
-ghost use Rattle.component.specs.Code.Writers.{blank, AppendedTo, identified};
+ghost use Rattle.component.specs.Answers.{integer, reject_octets, answer_octets};
+ghost use Rattle.component.specs.Code.Writers.{identified};
 
-use crate::invoke::ect_object;
-use crate::{Answer, Component, Reject};
+use crate::writing::{put_integer, put_object};
+use crate::{Answer, ECT_LINK_ID_REQUEST, LINK_ID_NOT_ASSIGNED, Reject};
+use filling::Filling;
 use octets::{Integer, IntegerOctets, LinkId};
-
-// No octets yet: all 32 are zero, and stay so beyond those put in.
-fn empty() -> Component
-    ensures { AppendedTo blank result [] }
-{
-    Component {
-        octets: [0u8; 32],
-        count: 0,
-    }
-}
-
-// Each asks for the room that it takes: a vector of fixed capacity would ask the same, and be copied into the 32 octets.
-impl Component {
-    // More octets behind those that are there.
-    fn push<const N: usize>(self, more: [u8; N]) -> Component
-        requires { self.count + N ≤ 32 }
-        ensures { AppendedTo self result more.entry }
-    {
-        let at = self.count as usize;
-        let mut next = self;
-        next.octets[at..at + N].copy_from_slice(&more);
-        next.count = (at + N) as u8;
-        next
-    }
-
-    fn push_integer(self, o: IntegerOctets) -> Component
-        requires { self.count + 4 ≤ 32 }
-        ensures { (AppendedTo self result (integer o)) × (result.count ≤ self.count + 4) }
-    {
-        match o {
-            IntegerOctets::One(a) => self.push([0x02, 1, a]),
-            IntegerOctets::Two(a, b) => self.push([0x02, 2, a, b]),
-        }
-    }
-
-    // An object identifier of the supplementary service.
-    fn push_object(self, last: u8) -> Component
-        requires { self.count + 8 ≤ 32 }
-        ensures { AppendedTo self result (element 0x06 (ect_object last)) }
-    {
-        self.push([0x06, 6]).push(ect_object(last))
-    }
-}
 
 // How many octets an integer element takes.
 fn integer_len(o: IntegerOctets) -> u8
@@ -62,44 +20,62 @@ fn integer_len(o: IntegerOctets) -> u8
     }
 }
 
-// The tag, the length, which counts `more` octets to follow, and the invoke identifier.
-fn start(tag: u8, id: IntegerOctets, more: u8) -> Component
+// The tag, the length, which counts `more` octets to follow, and the invoke identifier. At most 14: the length is an octet.
+#[tactic(auto, using(crate::proofs::WriterLaws::start))]
+fn put_start(tag: u8, id: IntegerOctets, more: u8, out: &mut Filling)
     requires { more ≤ 14 }
-    ensures { (AppendedTo blank result (identified tag id more)) × (result.count ≤ 6) }
+    ensures { HasRoom (identified tag id more) out.old → Put (identified tag id more) out.old out.new }
 {
-    empty().push([tag, integer_len(id) + more]).push_integer(id)
+    out.put(&[tag, integer_len(id) + more]);
+    put_integer(id, out);
 }
 
-fn reject(reject: Reject) -> Component
-    ensures { AppendedTo blank result (reject_octets reject) }
+#[tactic(auto, using(crate::proofs::WriterLaws::follow))]
+// Its arms and that of an error differ in their constants; each says the octets of one form as the standard has them.
+fn put_reject(reject: Reject, out: &mut Filling)
+    ensures { HasRoom (reject_octets reject) out.old → Put (reject_octets reject) out.old out.new }
 {
     match reject {
-        Reject::Null(problem) => empty().push([0xa4, 5, 0x05, 0, 0x80, 1, problem]),
-        Reject::General(id, problem) => start(0xa4, id, 3).push([0x80, 1, problem]),
-        Reject::Invoke(id, problem) => start(0xa4, id, 3).push([0x81, 1, problem]),
+        Reject::Null(problem) => out.put(&[0xa4, 5, 0x05, 0, 0x80, 1, problem]),
+        Reject::General(id, problem) => {
+            put_start(0xa4, id, 3, out);
+            out.put(&[0x80, 1, problem]);
+        }
+        Reject::Invoke(id, problem) => {
+            put_start(0xa4, id, 3, out);
+            out.put(&[0x81, 1, problem]);
+        }
     }
 }
 
 // The result of an EctLinkIdRequest: the identifier, and a sequence of the operation and the LinkId.
-fn link_id_result(id: IntegerOctets, link: LinkId) -> Component
-    ensures { AppendedTo blank result (answer_octets (LinkIdResult id link)) }
+fn put_link_id_result(id: IntegerOctets, link: LinkId, out: &mut Filling)
+    ensures { HasRoom (answer_octets (LinkIdResult id link)) out.old
+        → Put (answer_octets (LinkIdResult id link)) out.old out.new }
 {
     let o = IntegerOctets::from(Integer::from(link));
     let len = 8 + integer_len(o);
-    start(0xa2, id, len + 2)
-        .push([0x30, len])
-        .push_object(0x04)
-        .push_integer(o)
+    put_start(0xa2, id, len + 2, out);
+    out.put(&[0x30, len]);
+    put_object(ECT_LINK_ID_REQUEST, out);
+    put_integer(o, out);
 }
 
-pub fn write(answer: Answer) -> Component
-    ensures { AppendedTo blank result (answer_octets answer) }
+#[tactic(auto, using(crate::proofs::WriterLaws::follow), unfolding(crate::specs::Answers::answer_octets))]
+pub fn put_answer(answer: Answer, out: &mut Filling)
+    ensures { HasRoom (answer_octets answer) out.old → Put (answer_octets answer) out.old out.new }
 {
     match answer {
-        Answer::Rejected(r) => reject(r),
-        Answer::Error(id, error) => start(0xa3, id, 3).push([0x02, 1, error]),
-        Answer::LinkIdNotAssigned(id) => start(0xa3, id, 8).push_object(0x15),
-        Answer::Result(id) => start(0xa2, id, 0),
-        Answer::LinkIdResult(id, link) => link_id_result(id, link),
+        Answer::Rejected(r) => put_reject(r, out),
+        Answer::Error(id, error) => {
+            put_start(0xa3, id, 3, out);
+            out.put(&[0x02, 1, error]);
+        }
+        Answer::LinkIdNotAssigned(id) => {
+            put_start(0xa3, id, 8, out);
+            put_object(LINK_ID_NOT_ASSIGNED, out);
+        }
+        Answer::Result(id) => put_start(0xa2, id, 0, out),
+        Answer::LinkIdResult(id, link) => put_link_id_result(id, link, out),
     }
 }

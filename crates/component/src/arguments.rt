@@ -14,7 +14,7 @@ fn read_identified(component: &[u8]) -> Option<&[u8]>
     let [0xa1, len, contents @ ..] = component else {
         return None;
     };
-    if *len as usize != contents.len() {
+    if usize::from(*len) != contents.len() {
         return None;
     }
     if !are_elements(contents, 4) {

@@ -1,5 +1,6 @@
 // What an invoke asks for: its identifier, its operation and the operation's argument, each taken from the octets
-// that are left, or answered by a Reject at once.
+// that are left, or answered by a Reject at once. The cases of `Reading` are the definitions' own: a Result and `?`
+// would only be turned into them again.
 ghost use Rattle.std.specs.Prelude.{◌≡◌};
 ghost use Rattle.octets.specs.Lists.{same_octets};
 ghost use Rattle.elements.specs.Elements.{first_element};
@@ -7,7 +8,10 @@ ghost use Rattle.elements.specs.Values.{integer_in};
 ghost use Rattle.component.specs.Reading.{ect_object, local_reading, link_id_reading, global_reading};
 ghost use Rattle.component.specs.Reading.{identified_reading, invoke_reading, framed_reading};
 
-use crate::{Operation, Reading, Reject};
+use crate::{
+    BADLY_STRUCTURED_COMPONENT, ECT_EXECUTE, ECT_LINK_ID_REQUEST, EXPLICIT_ECT_EXECUTE,
+    MISTYPED_ARGUMENT, MISTYPED_COMPONENT, Operation, Reading, Reject, UNRECOGNIZED_OPERATION,
+};
 use elements::are_elements;
 use elements::values::{read_integer, read_object};
 use octets::{Integer, IntegerOctets, LinkId};
@@ -32,7 +36,7 @@ pub fn read_link_id(id: IntegerOctets, s: &[u8]) -> Reading
     ensures { result ≡ link_id_reading id (integer_in (first_element s.now)) }
 {
     let Some((octets, _)) = read_integer(s) else {
-        return Reading::Rejected(Reject::Invoke(id, 2));
+        return Reading::Rejected(Reject::Invoke(id, MISTYPED_ARGUMENT));
     };
     Reading::Invoked(
         id,
@@ -44,23 +48,23 @@ pub fn read_link_id(id: IntegerOctets, s: &[u8]) -> Reading
 pub fn read_local(id: IntegerOctets, value: IntegerOctets) -> Reading
     ensures { result ≡ local_reading id value }
 {
-    if Integer::from(value) == Integer(6) {
+    if Integer::from(value) == Integer(i16::from(ECT_EXECUTE)) {
         return Reading::Invoked(id, Operation::EctExecute);
     }
-    Reading::Rejected(Reject::Invoke(id, 1))
+    Reading::Rejected(Reject::Invoke(id, UNRECOGNIZED_OPERATION))
 }
 
 // An operation value that is an object identifier, and the octets after it.
 pub fn read_global(id: IntegerOctets, value: &[u8], rest: &[u8]) -> Reading
     ensures { result ≡ global_reading id value.now rest.now }
 {
-    if is_ect_object(value, 0x01) {
+    if is_ect_object(value, EXPLICIT_ECT_EXECUTE) {
         return read_link_id(id, rest);
     }
-    if is_ect_object(value, 0x04) {
+    if is_ect_object(value, ECT_LINK_ID_REQUEST) {
         return Reading::Invoked(id, Operation::EctLinkIdRequest);
     }
-    Reading::Rejected(Reject::Invoke(id, 1))
+    Reading::Rejected(Reject::Invoke(id, UNRECOGNIZED_OPERATION))
 }
 
 // The second element: an operation value.
@@ -72,7 +76,7 @@ pub fn read_operation(id: IntegerOctets, s: &[u8]) -> Reading
         return read_local(id, octets);
     }
     let Some((object, rest)) = read_object(s) else {
-        return Reading::Rejected(Reject::General(id, 1));
+        return Reading::Rejected(Reject::General(id, MISTYPED_COMPONENT));
     };
     read_global(id, object, rest)
 }
@@ -83,7 +87,7 @@ pub fn read_invoke(s: &[u8]) -> Reading
     ensures { result ≡ invoke_reading s.now }
 {
     let Some((octets, rest)) = read_integer(s) else {
-        return Reading::Rejected(Reject::Null(1));
+        return Reading::Rejected(Reject::Null(MISTYPED_COMPONENT));
     };
     read_operation(octets, rest)
 }
@@ -93,13 +97,13 @@ pub fn read_framed(s: &[u8]) -> Reading
     ensures { result ≡ framed_reading s.now }
 {
     let [len, contents @ ..] = s else {
-        return Reading::Rejected(Reject::Null(2));
+        return Reading::Rejected(Reject::Null(BADLY_STRUCTURED_COMPONENT));
     };
-    if *len as usize != contents.len() {
-        return Reading::Rejected(Reject::Null(2));
+    if usize::from(*len) != contents.len() {
+        return Reading::Rejected(Reject::Null(BADLY_STRUCTURED_COMPONENT));
     }
     if !are_elements(contents, 4) {
-        return Reading::Rejected(Reject::Null(2));
+        return Reading::Rejected(Reject::Null(BADLY_STRUCTURED_COMPONENT));
     }
     read_invoke(contents)
 }

@@ -5,10 +5,6 @@ use std::io;
 
 mod inform;
 
-fn text(rt: &impl Print, words: &str) -> io::Result<()> {
-    rt.print(words)
-}
-
 fn main(rt: HostRuntime) -> io::Result<()> {
     inform::forms(&rt)
 }

@@ -3,8 +3,7 @@ use Prim.Native.Nat.{min, ℕ, zero, suc, ◌≤◌, ◌<◌}
 use native.Mathlib.Omega.{arith}
 use mathlib.Core.Path.{◌≡◌, refl, sym, ap}
 use mathlib.Core.List.{List, [], ◌∷◌, ◌++◌}
-use lib.ListN.{length, take, drop, replicate, length-append, length-replicate}
-use lib.Seq.{length-take-le}
+use lib.ListN.{length, take, drop, replicate}
 use Rattle.digits.specs.Digits.{in_fifteen}
 
 -- ---- octets in front of zeros
@@ -27,6 +26,3 @@ copied (suc n) (suc m) k (x ∷ s) h l i j =
 
 pub fifteen_copied : (s : List ℕ) → take (min (length s) 15) s ++ drop (min (length s) 15) (replicate 15 0) ≡ in_fifteen s
 fifteen_copied s = copied (min (length s) 15) 15 15 s (omega arith) (omega arith) (omega arith) (λ e. omega arith)
-
-pub fifteen_long : (ds : List ℕ) → length (in_fifteen ds) ≡ 15
-fifteen_long ds = length-take-le 15 (ds ++ replicate 15 0) (omega (arith, length-append ds (replicate 15 0), length-replicate {A = ℕ} 15 0))

@@ -19,7 +19,7 @@ pub fn all_zeros(s: &[u8]) -> bool
     s.iter().all(|octet| *octet == 0)
 }
 
-// The octets in front of zeros, 15 in all.
+// The octets in front of zeros, 15 in all, as digits stand in rows and records: for a number read from a component.
 pub fn in_fifteen(s: &[u8]) -> [u8; 15]
     ensures { result ≡ in_fifteen s.now }
 {

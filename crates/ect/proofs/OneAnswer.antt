@@ -1,23 +1,24 @@
 -- A board and an event have one answer, over the contract of `step` (document 02, slip 3).
 use Rattle.std.specs.Prelude.{Result, Ok, Err}
-use Prim.Native.Nat.{ℕ, ◌≤◌}
+use Prim.Native.Nat.{ℕ, ◌≤◌, ◌<◌}
 use native.Mathlib.Omega.{arith}
-use borrow.Author.Tests.{ltb-true, ltb-false}
+use borrow.Author.Tests.{ltb-true, ltb-false, lt-ltb, le-ltb}
 use mathlib.Core.Path.{◌≡◌, ◌∙◌, ap, ap₂, refl, sym}
-use mathlib.Core.Bool.{Bool, true, false}
+use mathlib.Core.Bool.{Bool, true, false, cond}
 use mathlib.Core.List.{List}
 use lib.Dec.{ltb}
 use lib.ListN.{length}
 use Rattle.board.specs.declared.Board.{Board}
 use Rattle.board.specs.Soundness.{sound}
 use Rattle.events.specs.declared.Refusal.{Refusal}
+use Rattle.events.specs.declared.Refusal.TheVariants as refusal
+use Rattle.events.specs.Refusals.{refusal_number}
 use Rattle.events.proofs.RefusalNumbers.{refusal_injective, refusal_not_zero}
 use Rattle.rules.specs.History.{stepped}
 use Rattle.rules.specs.Replies.{octets}
-use Rattle.rules.specs.Step.{Outcome, step}
+use Rattle.rules.specs.Step.{Outcome, step, step_tested, refused, done, decision}
 use Rattle.ect.specs.CallHistory.{StepCall, number_returned, written, event_of}
 use Rattle.ect.specs.Contract.{answer_number, answer_count}
-use Rattle.ect.proofs.StepLaws.{small, enough}
 use Rattle.ect.proofs.CallHistory.{StepContractMet, outcome, replies_are}
 
 -- number and count say which answer it is
@@ -27,10 +28,21 @@ same_answer (Ok n) (Err d) e f = absurd (omega (arith, e, refusal_not_zero d))
 same_answer (Err d) (Ok n) e f = absurd (omega (arith, e, refusal_not_zero d))
 same_answer (Err c) (Err d) e f = ap Err (refusal_injective c d e)
 
+module _ (b : Board) (os : List ℕ) (room : ℕ) where
+  abbrev by_room : Bool → Outcome
+  by_room x = cond x (refused (refusal_number refusal.BufferTooSmall) b) (cond (sound b) (done b (decision b os)) (refused (refusal_number refusal.UnsoundBoard) b))
+
+  small : room < 128 → step b os room ≡ by_room true
+  unfolding step step_tested
+  small h = ap by_room (lt-ltb room 128 h)
+
+  enough : 128 ≤ room → step b os room ≡ by_room false
+  unfolding step step_tested
+  enough h = ap by_room (le-ltb room 128 h)
+
 -- with 128 octets or more the length of the buffer makes no difference
 same_outcome : (b : Board) (os : List ℕ) (n m : ℕ) → 128 ≤ n → 128 ≤ m → step b os n ≡ step b os m
-unfolding step
-same_outcome b os n m h k = enough (sound b) b os n h ∙ sym (enough (sound b) b os m k)
+same_outcome b os n m h k = enough b os n h ∙ sym (enough b os m k)
 
 module _ (b : Board) (c d : StepCall) (same : c.event ≡ d.event) (h : StepContractMet b c) (k : StepContractMet b d) where
   -- two calls on the same board and event, whatever lies in their buffers of at least 128 octets, return the same answer and board and write the same octets
@@ -47,11 +59,10 @@ module _ (b : Board) (c d : StepCall) (same : c.event ≡ d.event) (h : StepCont
 
 -- an accepted event had a buffer of at least 128 octets
 accepted_room : (b : Board) (c : StepCall) → StepContractMet b c → number_returned c ≡ 0 → 128 ≤ length c.before
-unfolding step
 accepted_room b c h e = go (ltb (length c.before) 128) refl
   where
     go : (x : Bool) → ltb (length c.before) 128 ≡ x → 128 ≤ length c.before
-    go true t = absurd (omega (arith, sym e ∙ (outcome h).answer ∙ ap (λ (o : Outcome). o.returned) (small (sound b) b c.event (length c.before) (ltb-true (length c.before) 128 t))))
+    go true t = absurd (omega (arith, sym e ∙ (outcome h).answer ∙ ap (λ (o : Outcome). o.returned) (small b c.event (length c.before) (ltb-true (length c.before) 128 t))))
     go false t = ltb-false (length c.before) 128 t
 
 -- "a board and an event accepted on it now have exactly one octet string"

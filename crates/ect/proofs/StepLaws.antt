@@ -1,44 +1,42 @@
 -- The outcome of the rules by the tests that lead to it, and what the code shows of it.
-use borrow.Author.Tests.{lt-ltb, le-ltb}
 use Rattle.std.specs.Prelude.{Result, Ok, Err}
 use native.Mathlib.Omega.{arith}
-use Prim.Native.Nat.{◌<◌, ◌≤◌, ℕ}
-use mathlib.Core.Path.{◌∙◌, ap, refl, sym, subst, subst⁻¹, ◌≡◌}
+use Prim.Native.Nat.{ℕ}
+use lib.Dec.{ltb}
+use mathlib.Core.Path.{◌∙◌, ap, refl, sym, subst⁻¹, ◌≡◌}
 use mathlib.Core.Bool.{Bool, cond, false, true}
 use mathlib.Core.List.{List}
 use lib.ListN.{length}
 use Rattle.octets.specs.Buffers.{front_written}
-use Rattle.board.specs.Soundness.{sound}
 use Rattle.board.specs.declared.Board.{Board}
-use Rattle.ect.specs.Contract.{OutcomeOf, Steps, StepsTested}
+use Rattle.ect.specs.Code.Testing.{decision_tested, stepped}
+use Rattle.ect.specs.Contract.{OutcomeOf, StepsTested}
 use Rattle.effects.specs.Code.Effects.{EffectOf, effect, effect_by, change_in, board_by}
-use Rattle.effects.proofs.EffectLaws.{change_board}
+use Rattle.effects.proofs.EffectLaws.{board_is}
 use Rattle.replies.specs.Code.Writing.{rendered, written}
-use Rattle.replies.proofs.WritingLaws.{rendered_written}
 use Rattle.ect.specs.declared.Stepped.{Stepped}
 use Rattle.events.specs.declared.Refusal.{Refusal}
 use Rattle.rules.specs.Checks.{Refuse, Accept, Decision, returned_by}
 use Rattle.events.specs.Refusals.{refusal_number}
 use Rattle.rules.specs.Replies.{octets, number_at}
-use Rattle.rules.specs.Step.{replies, board_after, rows_after, candidate_after, step, step_tested, refused, Outcome, done, decision}
+use Rattle.rules.specs.Step.{replies, board_after, rows_after, candidate_after, step_tested, refused, Outcome, done, decision}
 use Rattle.events.specs.declared.Refusal.TheVariants as refusal
 use Rattle.effects.specs.declared.Effect.{Effect}
 
 -- ---- the outcome
 
-module _ (tested : Bool) (b : Board) (os : List ℕ) (room : ℕ) where
-  pub small : room < 128 → step_tested tested b os room ≡ refused (refusal_number refusal.BufferTooSmall) b
-  unfolding step_tested
-  small h = ap (λ (x : Bool). cond {A = Outcome} x (refused (refusal_number refusal.BufferTooSmall) b) (cond tested (done b (decision b os)) (refused (refusal_number refusal.UnsoundBoard) b))) (lt-ltb room 128 h)
-
-  pub enough : 128 ≤ room → step_tested tested b os room ≡ cond {A = Outcome} tested (done b (decision b os)) (refused (refusal_number refusal.UnsoundBoard) b)
-  unfolding step_tested
-  enough h = ap (λ (x : Bool). cond {A = Outcome} x (refused (refusal_number refusal.BufferTooSmall) b) (cond tested (done b (decision b os)) (refused (refusal_number refusal.UnsoundBoard) b))) (le-ltb room 128 h)
+-- it is that of the decision behind the tests
+pub by_decision : (tested : Bool) (b : Board) (os : List ℕ) (room : ℕ) → step_tested tested b os room ≡ done b (decision_tested room tested (decision b os))
+unfolding step_tested board_after rows_after candidate_after replies
+by_decision tested b os room = go (ltb room 128) tested
+  where
+    go : (x t : Bool) → cond {A = Outcome} x (refused (refusal_number refusal.BufferTooSmall) b) (cond t (done b (decision b os)) (refused (refusal_number refusal.UnsoundBoard) b)) ≡
+        done b (cond x (Refuse refusal.BufferTooSmall) (cond t (decision b os) (Refuse refusal.UnsoundBoard)))
+    go true t = refl
+    go false true = refl
+    go false false = refl
 
 -- ---- what is shown of it
-
-abbrev pub stepped : Result ℕ Refusal → Board → Stepped
-stepped a b = record { answer = a; board = b }
 
 outcome_refused : (c : Refusal) (b : Board) (before : List ℕ) → OutcomeOf (refused (refusal_number c) b) before (stepped (Err c) b) before
 unfolding octets
@@ -60,47 +58,32 @@ module _ (b : Board) where
     pub octets_are : written e.out ≡ octets (replies b.rows d)
 
   accepts : (d : Decision) {e : Effect} → Ok e ≡ effect_by b.rows d → Done d e
-  unfolding board_after replies
+  unfolding board_after replies rendered
   accepts (Refuse r) h = let z : ◌≡◌ {A = ℕ} 0 1 = cc in absurd (omega arith)
   accepts (Accept x w) {e} h =
       let z : e ≡ effect (change_in x) (rendered (w (number_at b.rows))) = cc in
       record {
         returned = refl;
-        board = ap (λ (v : Effect). board_by v.change b) z ∙ change_board x b;
-        octets_are = ap (λ (v : Effect). written v.out) z ∙ rendered_written (w (number_at b.rows));
+        board = board_is (Accept x w) (record { is = h });
+        octets_are = ap (λ (v : Effect). written v.out) z;
       }
 
--- the test handed in is the board's own
-pub own_test : (b : Board) (os before after : List ℕ) (r : Stepped) {tested : Bool} → tested ≡ sound b → StepsTested tested b os before r after → Steps b os before r after
-unfolding step
-own_test b os before after r e s = subst (λ (x : Bool). StepsTested x b os before r after) e s
+module _ (tested : Bool) (b : Board) (os before : List ℕ) where
+  pub step_refused : {r : Result Effect Refusal} {c : Refusal} → EffectOf r b (decision_tested (length before) tested (decision b os)) → r ≡ Err c → StepsTested tested b os before (stepped (Err c) b) before
+  unfolding board_after rows_after candidate_after replies
+  step_refused {c = c} k e =
+      outcome_is (by_decision tested b os (length before) ∙ ap (done b) (refuses b (decision_tested (length before) tested (decision b os)) (sym e ∙ k.is)))
+      (outcome_refused c b before)
 
-module _ (b : Board) (os before : List ℕ) where
-  pub too_small : (tested : Bool) → length before < 128 → StepsTested tested b os before (stepped (Err refusal.BufferTooSmall) b) before
-  too_small tested h = outcome_is (small tested b os (length before) h) (outcome_refused refusal.BufferTooSmall b before)
-
-  module _ (h : 128 ≤ length before) where
-    pub not_sound : {tested : Bool} → tested ≡ false → StepsTested tested b os before (stepped (Err refusal.UnsoundBoard) b) before
-    not_sound t = rw t (outcome_is (enough false b os (length before) h) (outcome_refused refusal.UnsoundBoard b before))
-
-    -- a decision that refuses
-    pub step_refused : {tested : Bool} → tested ≡ true → {c : Refusal} → EffectOf (Err c) b (decision b os) → StepsTested tested b os before (stepped (Err c) b) before
-    unfolding board_after rows_after candidate_after replies
-    step_refused t {c} k =
-        rw t
-        (outcome_is (enough true b os (length before) h ∙ ap (done b) (refuses b (decision b os) k.is))
-        (outcome_refused c b before))
-
-    -- one that accepts
-    pub step_done : {tested : Bool} → tested ≡ true → {e : Effect} → EffectOf (Ok e) b (decision b os) → {os' : List ℕ} {n : ℕ} {b' : Board} {after : List ℕ} →
-        os' ≡ written e.out → n ≡ length os' → after ≡ front_written os' before → b' ≡ board_by e.change b → StepsTested tested b os before (stepped (Ok n) b') after
-    step_done t k x m q w =
-        let d = accepts b (decision b os) k.is in
-        let y = x ∙ d.octets_are in
-        rw t (outcome_is (enough true b os (length before) h)
-        (record {
-          answer = sym d.returned;
-          count = m ∙ ap length y;
-          board = w ∙ d.board;
-          buffer = q ∙ ap (λ (l : List ℕ). front_written l before) y;
-        }))
+  pub step_done : {r : Result Effect Refusal} {e : Effect} → EffectOf r b (decision_tested (length before) tested (decision b os)) → r ≡ Ok e → {os' : List ℕ} {n : ℕ} {b' : Board} {after : List ℕ} →
+      os' ≡ written e.out → n ≡ length os' → after ≡ front_written os' before → b' ≡ board_by e.change b → StepsTested tested b os before (stepped (Ok n) b') after
+  step_done k i x m q w =
+      let d = accepts b (decision_tested (length before) tested (decision b os)) (sym i ∙ k.is) in
+      let y = x ∙ d.octets_are in
+      outcome_is (by_decision tested b os (length before))
+      (record {
+        answer = sym d.returned;
+        count = m ∙ ap length y;
+        board = w ∙ d.board;
+        buffer = q ∙ ap (λ (l : List ℕ). front_written l before) y;
+      })

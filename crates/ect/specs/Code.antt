@@ -1,2 +1,2 @@
 -- Definitions that describe the code, for its proofs: no rule of document 01 stands here.
-pub mod Answering
+pub mod Testing

@@ -4,10 +4,12 @@
 ghost use Rattle.std.specs.Prelude.{◌≤◌, ◌≡◌, length};
 ghost use Rattle.octets.specs.Buffers.{front_written};
 ghost use Rattle.ect.specs.Contract.{Steps, StepsTested};
-ghost use Rattle.ect.specs.Code.Answering.{Accepts};
+ghost use Rattle.ect.specs.Code.Testing.{decision_tested, stepped};
+ghost use Rattle.effects.specs.Code.Effects.{EffectOf, board_by};
+ghost use Rattle.rules.specs.Step.{decision};
 
 use board::Board;
-use effects::{done, effect_of};
+use effects::{ChangeKind, Effect, done, effect_of};
 use events::Refusal;
 use soundness::sound;
 
@@ -28,28 +30,43 @@ fn copy_out(reply: &mut [u8], octets: &[u8]) -> usize
     n
 }
 
-// How many octets are written and the board after the event, where no check refuses it.
-fn accepted(
-    board: Board,
-    is_sound: bool,
-    event: &[u8],
-    reply: &mut [u8],
-) -> Result<(usize, Board), Refusal>
-    ensures { Accepts is_sound board event.now reply.old result reply.new }
+// What an event comes to, where no check refuses it.
+fn accepted(board: &Board, is_sound: bool, event: &[u8], room: usize) -> Result<Effect, Refusal>
+    ensures { EffectOf result board.now (decision_tested room is_sound (decision board.now event.now)) }
 {
-    if reply.len() < 128 {
+    // The number that the rules name, which the replies of no event exceed.
+    if room < 128 {
         return Err(Refusal::BufferTooSmall);
     }
     if !is_sound {
         return Err(Refusal::UnsoundBoard);
     }
-    let effect = effect_of(board, event)?;
-    let n = copy_out(reply, effect.out.octets.as_slice());
-    Ok((n, done(board, effect.change)))
+    effect_of(board, event)
+}
+
+// The answer to the event, with the replies in the front of the buffer, and what changes on the board.
+// A pair, with no change beside a refusal: so the board is changed, and the answer built, in one place, on which an
+// event's speed depends.
+fn answered(
+    board: &Board,
+    is_sound: bool,
+    event: &[u8],
+    reply: &mut [u8],
+) -> (Result<usize, Refusal>, Option<ChangeKind>)
+    ensures { StepsTested is_sound board.now event.now reply.old (stepped result.0 (board_by result.1 board.now)) reply.new }
+{
+    match accepted(board, is_sound, event, reply.len()) {
+        Ok(effect) => (
+            Ok(copy_out(reply, effect.out.octets.as_slice())),
+            effect.change,
+        ),
+        Err(refusal) => (Err(refusal), None),
+    }
 }
 
 // The board after the event, with the replies in the front of the buffer; or a refusal that leaves both.
 // Board, event and buffer may have any content, event and buffer any length.
+#[tactic(auto, unfolding(rules::specs::Step::step))]
 pub fn step(board: Board, event: &[u8], reply: &mut [u8]) -> Stepped
     ensures { Steps board event.now reply.old result reply.new }
 {
@@ -58,17 +75,11 @@ pub fn step(board: Board, event: &[u8], reply: &mut [u8]) -> Stepped
 
 // The same for a caller that knows whether the board is sound. The board returned is sound exactly where the one
 // given is, so a run of events needs one test.
-pub fn step_tested(board: Board, is_sound: bool, event: &[u8], reply: &mut [u8]) -> Stepped
+// Board and test stay apart: a caller tells what it knows of any board, and a struct that tied them would ask more.
+pub fn step_tested(mut board: Board, is_sound: bool, event: &[u8], reply: &mut [u8]) -> Stepped
     ensures { StepsTested is_sound board event.now reply.old result reply.new }
 {
-    match accepted(board, is_sound, event, reply) {
-        Ok((n, board)) => Stepped {
-            answer: Ok(n),
-            board,
-        },
-        Err(refusal) => Stepped {
-            answer: Err(refusal),
-            board,
-        },
-    }
+    let (answer, change) = answered(&board, is_sound, event, reply);
+    done(&mut board, change);
+    Stepped { answer, board }
 }

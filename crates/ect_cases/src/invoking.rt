@@ -2,7 +2,7 @@
 // spare.
 use crate::show::{Hex, Invoke, Read, front};
 use component::Operation;
-use events::{Refusal, refusal_number};
+use events::Refusal;
 use invokes::write_invoke;
 use octets::{InvokeIdentifier, LinkId};
 use std::io;
@@ -37,7 +37,7 @@ pub fn written_and_read(rt: &impl Print) -> io::Result<()> {
 fn number_of_write(buffer: &mut [u8]) -> u8 {
     match write_invoke(Operation::EctExecute, InvokeIdentifier(5), buffer) {
         Ok(_) => 0,
-        Err(_) => refusal_number(Refusal::BufferTooSmall),
+        Err(_) => u8::from(Refusal::BufferTooSmall),
     }
 }
 

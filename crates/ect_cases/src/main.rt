@@ -2,7 +2,7 @@
 // sample, invokes that are written and read back, integers that are padded or not, and forms of subaddresses.
 #![tactic(auto)]
 
-use board::{Board, Options};
+use board::{Board, Direction, Options};
 use ect::Stepped;
 use records::{leg_facility, open};
 use show::Returned;
@@ -29,15 +29,16 @@ fn run(rt: &impl Print, board: Board, words: &str, event: &[u8]) -> io::Result<B
 
 // An outgoing Open of a reference and a leg.
 fn outgoing(reference: u8, leg: u8) -> [u8; 25] {
-    open(reference, leg, false, *b"21")
+    open(reference, leg, Direction::Outgoing, *b"21")
 }
 
 // A board with 64 legs.
 fn full(fresh: Board) -> Board {
     let mut board = fresh;
     let mut reply = [0u8; 128];
-    for k in 1..65u8 {
-        board = ect::step(board, &outgoing(k, k), &mut reply).board;
+    // The number is the leg, and the reference of its call.
+    for leg in 1..=64 {
+        board = ect::step(board, &outgoing(leg, leg), &mut reply).board;
     }
     board
 }
@@ -94,8 +95,9 @@ fn on_the_board(rt: &impl Print, fresh: Board) -> io::Result<()> {
 }
 
 fn main(rt: HostRuntime) -> io::Result<()> {
-    let Ok(fresh) = board::fresh(1, 1) else {
-        return rt.println("an option is neither 0 nor 1");
+    let fresh = match board::fresh(1, 1) {
+        Ok(fresh) => fresh,
+        Err(refused) => return println!(&rt; "{refused}"),
     };
     before_the_board(&rt, fresh)?;
     on_the_board(&rt, fresh)?;

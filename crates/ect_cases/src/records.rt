@@ -1,4 +1,5 @@
 // The event records of the cases.
+use board::Direction;
 use std::array;
 
 // A record that begins with these octets; the others are zero.
@@ -7,9 +8,9 @@ pub fn padded<const N: usize>(front: &[u8]) -> [u8; N] {
 }
 
 // Open of a reference and a leg, shown, with two digits.
-pub fn open(reference: u8, leg: u8, incoming: bool, digits: [u8; 2]) -> [u8; 25] {
+pub fn open(reference: u8, leg: u8, direction: Direction, digits: [u8; 2]) -> [u8; 25] {
     let [a, b] = digits;
-    padded(&[1, 0, reference, 0, 0, 0, leg, incoming as u8, 0, 2, a, b])
+    padded(&[1, 0, reference, 0, 0, 0, leg, direction as u8, 0, 2, a, b])
 }
 
 // EctExecute on the call with that reference: a1 06, identifier 02 01 05, operation 02 01 06.

@@ -1,16 +1,18 @@
-// A board made, an event played on it, and the board asked for its counts and for a call.
+// A board made, an event played on it, and the board asked for its counts and for a call. README shows it, so each
+// answer is matched here as a caller would.
 use crate::records::padded;
 use crate::show::{Hex, front};
+use board::Counts;
 use board::finding::lookup;
 use ect::step;
-use events::refusal_number;
 use octets::CallReference;
 use soundness::count;
 use std::io;
 
 pub fn sample(rt: &impl Print) -> io::Result<()> {
-    let Ok(fresh) = board::fresh(1, 1) else {
-        return rt.println("an option is neither 0 nor 1");
+    let fresh = match board::fresh(1, 1) {
+        Ok(fresh) => fresh,
+        Err(refused) => return println!(rt; "{refused}"),
     };
     // Open: reference 5, leg 7, outgoing, shown, digits 21.
     let open: [u8; 25] = padded(b"\x01\x00\x05\x00\x00\x00\x07\x00\x00\x02\x32\x31");
@@ -19,13 +21,10 @@ pub fn sample(rt: &impl Print) -> io::Result<()> {
     let board = stepped.board;
     match stepped.answer {
         Ok(n) => println!(rt; "accepted {}", Hex(front(&reply, n)))?,
-        Err(refusal) => println!(rt; "refused {}", refusal_number(refusal))?,
+        Err(refusal) => println!(rt; "refused {}", u8::from(refusal))?,
     }
     match count(board) {
-        Ok(counts) => {
-            let legs = counts.legs;
-            let pairs = counts.pairs;
-            let links = counts.links;
+        Ok(Counts { legs, pairs, links }) => {
             println!(rt; "legs {legs}, pairs {pairs}, LinkIds {links}")?;
         }
         Err(_) => println!(rt; "not sound")?,

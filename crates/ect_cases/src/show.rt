@@ -1,10 +1,11 @@
 // Octets in hex, and what the component's functions return, in the words of the cases.
 use component::{Answer, Operation, Reading};
-use events::{Refusal, refusal_number};
+use events::Refusal;
 use octets::{Integer, InvokeIdentifier};
 use std::fmt;
 
-// The first n octets, which are those that were written.
+// The first n octets, which are those that were written. `codings` has its own, and its `Hex`: a crate for the ten
+// lines would be more.
 pub fn front(octets: &[u8], n: usize) -> &[u8] {
     octets.get(..n).unwrap_or(octets)
 }
@@ -29,7 +30,7 @@ impl fmt::Display for Returned {
     fn fmt<W: fmt::Write>(&self, f: &mut fmt::Formatter<W>) -> fmt::Result {
         match self.0 {
             Ok(n) => write!(f, "0, octets {n}"),
-            Err(refusal) => write!(f, "{}", refusal_number(refusal)),
+            Err(refusal) => write!(f, "{}", u8::from(refusal)),
         }
     }
 }
@@ -42,7 +43,7 @@ impl fmt::Display for Replied<'_> {
     fn fmt<W: fmt::Write>(&self, f: &mut fmt::Formatter<W>) -> fmt::Result {
         match self.0 {
             Ok(n) => write!(f, "accepted {}", Hex(front(self.1, n))),
-            Err(refusal) => write!(f, "refused {}", refusal_number(refusal)),
+            Err(refusal) => write!(f, "refused {}", u8::from(refusal)),
         }
     }
 }
@@ -74,7 +75,7 @@ impl fmt::Display for Read {
             Reading::Ignored => write!(f, "nothing"),
             Reading::Rejected(reject) => {
                 let answer = component::encode(Answer::Rejected(reject));
-                let octets = front(&answer.octets, answer.count as usize);
+                let octets = front(&answer.octets, usize::from(answer.count));
                 write!(f, "Reject {}", Hex(octets))
             }
             Reading::Invoked(received, operation) => {

@@ -2,7 +2,7 @@
 // is passed on, and the ward answers.
 use crate::records::{execute, leg_facility, open};
 use crate::show::Replied;
-use board::Board;
+use board::{Board, Direction};
 use std::io;
 
 // One event: the exchange sends what was written, and goes on with the board that it gets.
@@ -17,11 +17,11 @@ pub fn ward_transfer(rt: &impl Print, fresh: Board) -> io::Result<()> {
     // A call is answered and held, the ward alerts, and EctExecute joins the two; of the ward's two Leg facilities the
     // first is passed on and the second refused; the ward answers.
     let events: [&[u8]; 10] = [
-        &open(1, 1, true, *b"21"),
+        &open(1, 1, Direction::Incoming, *b"21"),
         b"\x02\x00\x01\x0a",
         b"\x03\x00\x01\x01",
         b"\x03\x00\x01\x02",
-        &open(2, 2, false, *b"22"),
+        &open(2, 2, Direction::Outgoing, *b"22"),
         b"\x02\x00\x02\x04",
         &execute(1),
         &leg_facility(2, 3),

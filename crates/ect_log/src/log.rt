@@ -37,15 +37,15 @@ impl Log {
         self.from += count;
     }
 
-    // Moves what is not yet played to the front of the buffer, and reads once behind it. Returns how many octets more
-    // there are: 0 where the log has ended.
-    pub fn read_more(&mut self, rt: &impl Input) -> io::Result<usize> {
+    // Moves what is not yet played to the front of the buffer, and reads once behind it. Returns whether there is more:
+    // false where the log has ended.
+    pub fn read_more(&mut self, rt: &impl Input) -> io::Result<bool> {
         self.octets.copy_within(self.from..self.to, 0);
         let held = self.to - self.from;
         self.from = 0;
         self.to = held;
         let more = rt.reader().read(&mut self.octets[held..])?;
         self.to += more;
-        Ok(more)
+        Ok(more != 0)
     }
 }

@@ -22,7 +22,7 @@ fn complain(rt: &impl Eprint, words: &str) {
 // Whether there is more of the log. One that cannot be read ends there.
 fn read_more(rt: &(impl Input + Eprint), log: &mut Log) -> bool {
     match log.read_more(rt) {
-        Ok(more) => more != 0,
+        Ok(more) => more,
         Err(_) => {
             complain(rt, "ect_log: cannot read");
             false
@@ -35,13 +35,11 @@ fn read_options(rt: &(impl Input + Eprint), log: &mut Log) -> Option<Board> {
     if read_more(rt, log) && log.unplayed().len() == 1 {
         read_more(rt, log);
     }
-    let octets = log.unplayed();
-    if octets.len() < 2 {
+    let [subscribed, alerting, ..] = *log.unplayed() else {
         return None;
-    }
-    let start = fresh(octets[0], octets[1]);
+    };
     log.played(2);
-    start.ok()
+    fresh(subscribed, alerting).ok()
 }
 
 // Writes the line in front of a text.
@@ -87,7 +85,8 @@ fn play_log(
     Ok(board)
 }
 
-// The counts of a board that the component returned. Such a board is sound.
+// The counts of a board that the component returned. Such a board is sound. They go one by one, as log_text knows no
+// board.
 fn write_end(rt: &impl Print, board: Board, output: &mut [u8]) -> io::Result<()> {
     let line = match count(board) {
         Ok(counts) => log_text::end_line(

@@ -56,7 +56,7 @@ pub fn hold(
     ensures { EffectAnywhere result (decide_hold reference.0 auxiliary found) }
 {
     let call = found.ok_or(Refusal::NoSuchCall)?.call;
-    if is_holdable(call.state) & may_hold(call.auxiliary, auxiliary) {
+    if is_holdable(call.state) && may_hold(call.auxiliary, auxiliary) {
         return Ok(applied(Change::SetAuxiliary(reference, auxiliary), nothing()));
     }
     Err(Refusal::NotPermitted)

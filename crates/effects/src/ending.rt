@@ -15,15 +15,15 @@ pub fn release(found: Option<Entry>) -> Result<Effect, Refusal>
         Connection::WithUser(call) => {
             applied(Change::Release(entry.leg), drop_notice(call.reference))
         }
-        Connection::WithPartner {
-            partner,
-            alerting: _,
-        } => applied(Change::ReleasePair(entry.leg, partner), gone(partner)),
+        Connection::WithPartner { partner, .. } => applied(
+            Change::ReleasePair(entry.leg, partner),
+            gone(partner),
+        ),
     })
 }
 
-pub fn answer(board: Board, found: Option<Entry>, leg: u32) -> Result<Effect, Refusal>
-    ensures { EffectOf result board (decide_answer board.options leg found) }
+pub fn answer(board: &Board, found: Option<Entry>, leg: u32) -> Result<Effect, Refusal>
+    ensures { EffectOf result board.now (decide_answer board.now.options leg found) }
 {
     match found.ok_or(Refusal::NoSuchLeg)?.connection {
         Connection::WithPartner {
@@ -31,7 +31,7 @@ pub fn answer(board: Board, found: Option<Entry>, leg: u32) -> Result<Effect, Re
             alerting: true,
         } => Ok(applied(
             Change::EndAlerting(leg),
-            answer_told(partner, number_at(board, leg)),
+            answer_told(partner, number_at(&board.rows, leg)),
         )),
         _ => Err(Refusal::NotPermitted),
     }

@@ -14,25 +14,25 @@ use rules::Service;
 use serving::parties::named;
 use serving::serve;
 
-fn far_party(board: Board, party: Party) -> FarParty
-    ensures { Describes board.rows party result }
+fn far_party(board: &Board, party: Party) -> FarParty
+    ensures { Describes board.now.rows party result }
 {
     FarParty {
         reference: party.call.reference,
         leg: party.leg,
         alerts: is_delivered(party.call),
-        number: number_at(board, party.leg),
+        number: number_at(&board.rows, party.leg),
     }
 }
 
 fn transfer(
-    board: Board,
+    board: &Board,
     party: Party,
     first: Party,
     second: Party,
     identifier: IntegerOctets,
 ) -> Effect
-    ensures { EffectOf (Ok result) board (service_decision board.options party
+    ensures { EffectOf (Ok result) board.now (service_decision board.now.options party
         (Service.Transfer first second identifier)) }
 {
     applied(
@@ -46,14 +46,14 @@ fn transfer(
     )
 }
 
-// Carries out what the component of the party's Facility comes to.
-fn carry_out(board: Board, party: Party, service: Service) -> Effect
-    ensures { EffectOf (Ok result) board (service_decision board.options party service) }
+// Carries out what the component of the party's Facility comes to: a closed set of data, on which the rules match too.
+fn carry_out(board: &Board, party: Party, service: Service) -> Effect
+    ensures { EffectOf (Ok result) board.now (service_decision board.now.options party service) }
 {
     let reference = party.call.reference;
     match service {
         Service::Silent => unchanged(nothing()),
-        Service::Respond(a) => unchanged(reply(reference, a)),
+        Service::Respond(answer) => unchanged(reply(reference, answer)),
         Service::AssignLinkId(id, identifier) => applied(
             Change::SetLinkId(reference, id),
             reply(reference, Answer::LinkIdResult(identifier, id)),
@@ -66,10 +66,14 @@ fn carry_out(board: Board, party: Party, service: Service) -> Effect
     }
 }
 
-pub fn facility(board: Board, reference: CallReference, component: &[u8]) -> Result<Effect, Refusal>
-    ensures { EffectOf result board (facility_on board reference.0 component.now) }
+pub fn facility(
+    board: &Board,
+    reference: CallReference,
+    component: &[u8],
+) -> Result<Effect, Refusal>
+    ensures { EffectOf result board.now (facility_on board.now reference.0 component.now) }
 {
-    let party = named(board, reference).ok_or(Refusal::NoSuchCall)?;
+    let party = named(&board.rows, reference).ok_or(Refusal::NoSuchCall)?;
     Ok(carry_out(
         board,
         party,

@@ -17,7 +17,7 @@ use facility::facility;
 use octets::LinkId;
 use opening::open;
 use passing::leg_facility;
-use replies::{Out, number_as_told};
+use replies::{Out, number_as_told, unknown};
 use row_changes::open_row;
 use rules::TellNumber;
 use serving::parties::{entry_at, named};
@@ -35,7 +35,7 @@ pub enum ChangeKind {
     Apply(Change),
 }
 
-// What an accepted event comes to. It has no board, so that the board is made once, from the change.
+// What an accepted event comes to. It has no board: the board is changed in place, once, by the change.
 #[derive(Drop)]
 pub struct Effect {
     pub change: Option<ChangeKind>,
@@ -60,31 +60,41 @@ fn applied(change: Change, out: Out) -> Effect
 }
 
 // The number of the party at a leg, as it is told.
-fn number_at(board: Board, leg: u32) -> TellNumber
-    ensures { result ≡ number_at board.rows leg }
+#[tactic(auto, using(crate::proofs::NumberLaws::number_found, crate::proofs::NumberLaws::number_not_found))]
+fn number_at(rows: &[Row], leg: u32) -> TellNumber
+    ensures { result ≡ number_at rows.now leg }
 {
-    number_as_told(find_row(board, Key::Leg(leg)).number)
+    find_row(rows, Key::Leg(leg)).map_or_else(unknown, |row| number_as_told(row.number))
 }
 
 // What the event comes to on the board, where board and buffer are in order.
-pub fn effect_of(board: Board, event: &[u8]) -> Result<Effect, Refusal>
-    ensures { EffectOf result board (decision board event.now) }
+// Requests and changes are closed sets of data, on which the rules, the book and the history match too.
+#[tactic(auto, using(crate::proofs::EffectLaws::count_in_range), unfolding(rules::specs::Step::decision, rules::specs::Checks::decide))]
+pub fn effect_of(board: &Board, event: &[u8]) -> Result<Effect, Refusal>
+    ensures { EffectOf result board.now (decision board.now event.now) }
 {
-    let request = read_request(event)?;
-    match request {
+    match read_request(event)? {
         Request::Open {
             reference,
             leg,
             direction,
             number,
         } => open(board, reference, leg, direction, number),
-        Request::Progress(reference, state) => progress(named(board, reference), reference, state),
-        Request::Hold(reference, auxiliary) => hold(named(board, reference), reference, auxiliary),
-        Request::Release(leg) => release(entry_at(board, leg)),
+        Request::Progress(reference, state) => progress(
+            named(&board.rows, reference),
+            reference,
+            state,
+        ),
+        Request::Hold(reference, auxiliary) => hold(
+            named(&board.rows, reference),
+            reference,
+            auxiliary,
+        ),
+        Request::Release(leg) => release(entry_at(&board.rows, leg)),
         Request::Facility(reference, component) => facility(board, reference, component),
-        Request::Answer(leg) => answer(board, entry_at(board, leg), leg),
+        Request::Answer(leg) => answer(board, entry_at(&board.rows, leg), leg),
         Request::LegFacility(leg, count, octets) => {
-            leg_facility(entry_at(board, leg), count, *octets)
+            leg_facility(entry_at(&board.rows, leg), count, *octets)
         }
     }
 }
@@ -99,16 +109,16 @@ fn candidate_after(candidate: LinkId, change: Change) -> LinkId
     }
 }
 
-// The board after a change, if there is one.
-pub fn done(board: Board, change: Option<ChangeKind>) -> Board
-    ensures { result ≡ board_by change board }
+// Changes the board, if there is a change.
+pub fn done(board: &mut Board, change: Option<ChangeKind>)
+    ensures { board.new ≡ board_by change board.old }
 {
     match change {
-        None => board,
-        Some(ChangeKind::Enter(row)) => open_row(board, row),
-        Some(ChangeKind::Apply(c)) => Board {
-            candidate: candidate_after(board.candidate, c),
-            ..row_changes::change(board, c)
-        },
+        None => {}
+        Some(ChangeKind::Enter(row)) => open_row(&mut board.rows, row),
+        Some(ChangeKind::Apply(change)) => {
+            board.candidate = candidate_after(board.candidate, change);
+            row_changes::change(&mut board.rows, change);
+        }
     }
 }

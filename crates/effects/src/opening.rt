@@ -4,7 +4,7 @@ ghost use Rattle.rules.specs.Checks.{first_state};
 ghost use Rattle.effects.specs.Code.Effects.{EffectOf, opened_row, open_on};
 
 use crate::{ChangeKind, Effect};
-use board::finding::check_open;
+use board::finding::{Key, has};
 use board::{AuxiliaryState, Board, Call, CallState, Direction, PartyNumber, Row, Standing};
 use events::Refusal;
 use octets::CallReference;
@@ -19,43 +19,45 @@ fn first_state(direction: Direction) -> CallState
     }
 }
 
-fn opened_row(r: CallReference, leg: u32, d: Direction, number: PartyNumber) -> Row
-    ensures { result ≡ opened_row r.0 leg d number }
+fn opened_row(reference: CallReference, leg: u32, direction: Direction, number: PartyNumber) -> Row
+    ensures { result ≡ opened_row reference.0 leg direction number }
 {
     Row {
         leg,
         number,
         standing: Standing::Served(Call {
-            reference: r,
-            direction: d,
-            state: first_state(d),
+            reference,
+            direction,
+            state: first_state(direction),
             auxiliary: AuxiliaryState::Idle,
             link: None,
         }),
     }
 }
 
+// Reference, leg, direction and number travel through `Request::Open`, `open` and `opened_row` alone, and the
+// definitions name them apart.
+#[tactic(auto, using(board::proofs::Searches::any_leg, board::proofs::Searches::any_reference))]
 pub fn open(
-    board: Board,
-    r: CallReference,
-    l: u32,
-    d: Direction,
+    board: &Board,
+    reference: CallReference,
+    leg: u32,
+    direction: Direction,
     number: PartyNumber,
 ) -> Result<Effect, Refusal>
-    ensures { EffectOf result board (open_on board r.0 l d number) }
+    ensures { EffectOf result board.now (open_on board.now reference.0 leg direction number) }
 {
-    let check = check_open(board, l, r);
-    if check.leg {
+    if has(&board.rows, Key::Leg(leg)) {
         return Err(Refusal::LegOnBoard);
     }
-    if check.reference {
+    if has(&board.rows, Key::Reference(reference)) {
         return Err(Refusal::ReferenceInUse);
     }
-    if !check.empty {
+    if !has(&board.rows, Key::Empty) {
         return Err(Refusal::NoEmptyRow);
     }
     Ok(Effect {
-        change: Some(ChangeKind::Enter(opened_row(r, l, d, number))),
+        change: Some(ChangeKind::Enter(opened_row(reference, leg, direction, number))),
         out: nothing(),
     })
 }

@@ -9,18 +9,15 @@ use events::Refusal;
 use replies::pass_on;
 use subaddresses::is_subaddress_transfer;
 
+// What it requires is given by the reader's equation: a record of another count is refused before.
 pub fn leg_facility(found: Option<Entry>, count: u8, component: [u8; 64]) -> Result<Effect, Refusal>
     requires { count ≤ 64 }
     ensures { EffectAnywhere result (decide_leg_facility count component found) }
 {
-    let Connection::WithPartner {
-        partner,
-        alerting: _,
-    } = found.ok_or(Refusal::NoSuchLeg)?.connection
-    else {
+    let Connection::WithPartner { partner, .. } = found.ok_or(Refusal::NoSuchLeg)?.connection else {
         return Err(Refusal::NotPermitted);
     };
-    if !is_subaddress_transfer(&component[..count as usize]) {
+    if !is_subaddress_transfer(&component[..usize::from(count)]) {
         return Err(Refusal::NoSuchInvoke);
     }
     Ok(unchanged(pass_on(partner, count, component)))

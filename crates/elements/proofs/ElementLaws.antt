@@ -13,7 +13,7 @@ use Rattle.elements.specs.Elements.{Element, Bad, Whole, valid_head, first_eleme
 use Rattle.elements.specs.Code.Readers.{checked}
 
 -- ---- the first element
-pub some_left : (s : List ℕ) → false ≡ eqb (length s) 0 → length s ≡ 0 → ⊥
+some_left : (s : List ℕ) → false ≡ eqb (length s) 0 → length s ≡ 0 → ⊥
 some_left [] h e = absurd (let z : ◌≡◌ {A = ℕ} 0 1 = cc in omega arith)
 some_left (x ∷ s) h e = absurd (omega arith)
 
@@ -65,8 +65,8 @@ judged inner (Whole x y z) {tag} {c} {r} q = go (not (constructed x) || inner y)
     go true q = q
     go false q = absurd (let z : ◌≡◌ {A = ℕ} 0 1 = cc in omega arith)
 
-pub judged_parts : (s : List ℕ) (inner : List ℕ → Bool) {tag : ℕ} {c r : List ℕ} → Whole tag c r ≡ checked inner (first_element s) → length c + length r + 2 ≤ length s
-judged_parts s inner q = parts s (judged inner (first_element s) q)
+pub judged_parts : (s : List ℕ) (inner : List ℕ → Bool) {tag : ℕ} {c r : List ℕ} → Whole tag c r ≡ checked inner (first_element s) → length r + 2 ≤ length s
+judged_parts s inner q = let h = parts s (judged inner (first_element s) q) in omega (arith, h)
 
 shorter : (x : ℕ) (s : List ℕ) (tag : ℕ) (c r : List ℕ) → first_element (x ∷ s) ≡ Whole tag c r → length r ≤ length s
 shorter x s tag c r q = let h = parts (x ∷ s) (sym q) in omega (arith, h)
@@ -97,19 +97,18 @@ none_left d (x ∷ s) h =
     let f : true ≡ false = h ∙ ne_eqb (suc (length s)) 0 (λ (e : suc (length s) ≡ 0). omega arith) in
     absurd (let z : ◌≡◌ {A = ℕ} 0 1 = cc in omega arith)
 
-pub too_deep : (d : ℕ) (s : List ℕ) → d ≡ 0 → (length s ≡ 0 → ⊥) → false ≡ whole_elements d s
+pub too_deep : (d : ℕ) (s : List ℕ) → d ≡ 0 → false ≡ eqb (length s) 0 → false ≡ whole_elements d s
 unfolding whole_elements
-too_deep zero [] e h = absurd (h refl)
+too_deep zero [] e h = h
 too_deep zero (x ∷ s) e h = refl
 too_deep (suc d) s e h = absurd (omega arith)
 
 -- the rest is judged where the first element is sound
-followed : (List ℕ → Bool) → Element → Bool
+abbrev pub followed : (List ℕ → Bool) → Element → Bool
 followed more Bad = false
 followed more (Whole tag c r) = more r
 
 well_followed : (inner more : List ℕ → Bool) (e : Element) → well_formed inner more e ≡ followed more (checked inner e)
-unfolding followed
 well_followed inner more Bad = refl
 well_followed inner more (Whole tag c r) = split (not (constructed tag) || inner c)
   where
@@ -117,16 +116,8 @@ well_followed inner more (Whole tag c r) = split (not (constructed tag) || inner
     split true = refl
     split false = refl
 
-stepped : (d : ℕ) (s : List ℕ) → (d ≡ 0 → ⊥) → (length s ≡ 0 → ⊥) → whole_elements d s ≡ followed (whole_elements d) (checked (whole_elements (d - 1)) (first_element s))
+pub stepped : (d : ℕ) (s : List ℕ) → (d ≡ 0 → ⊥) → false ≡ eqb (length s) 0 → whole_elements d s ≡ followed (whole_elements d) (checked (whole_elements (d - 1)) (first_element s))
 stepped zero s p h = absurd (p refl)
 stepped (suc d) s p h =
     let k : suc d - 1 ≡ d = omega arith in
-    rw k (step d s h ∙ well_followed (whole_elements d) (whole_elements (suc d)) (first_element s))
-
-pub first_bad : (d : ℕ) (s : List ℕ) → (d ≡ 0 → ⊥) → (length s ≡ 0 → ⊥) → Bad ≡ checked (whole_elements (d - 1)) (first_element s) → false ≡ whole_elements d s
-unfolding followed
-first_bad d s p h q = sym (stepped d s p h ∙ rw (← q))
-
-pub first_whole : (d : ℕ) (s : List ℕ) {tag : ℕ} {c r : List ℕ} → (d ≡ 0 → ⊥) → (length s ≡ 0 → ⊥) → Whole tag c r ≡ checked (whole_elements (d - 1)) (first_element s) → whole_elements d r ≡ whole_elements d s
-unfolding followed
-first_whole d s p h q = sym (stepped d s p h ∙ rw (← q))
+    rw k (step d s (some_left s h) ∙ well_followed (whole_elements d) (whole_elements (suc d)) (first_element s))

@@ -28,6 +28,11 @@ abbrev pub no_octets : List ℕ → Bool
 no_octets [] = true
 no_octets (x ∷ s) = false
 
+-- an element that nothing follows
+abbrev pub only_element : Element → Element
+only_element Bad = Bad
+only_element (Whole tag contents rest) = cond (no_octets rest) (Whole tag contents rest) Bad
+
 -- elements side by side up to the end, at most `count` of them
 unfoldable pub siblings : (List ℕ → Bool) → ℕ → List ℕ → Bool
 siblings inner zero s = no_octets s

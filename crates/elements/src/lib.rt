@@ -2,7 +2,7 @@
 // identifiers.
 #![tactic(auto)]
 
-ghost use Rattle.elements.specs.Elements.{first_element, whole_elements};
+ghost use Rattle.elements.specs.Elements.{first_element, only_element, whole_elements};
 ghost use Rattle.elements.specs.Code.Readers.{element_of, checked};
 ghost use Rattle.std.specs.Prelude.{◌≡◌};
 
@@ -30,12 +30,19 @@ pub fn first_element(s: &[u8]) -> Option<FirstElement<'_>>
     if 128 <= *len {
         return None;
     }
-    let (contents, rest) = after.split_at_checked(*len as usize)?;
+    let (contents, rest) = after.split_at_checked(usize::from(*len))?;
     Some(FirstElement {
         tag: *tag,
         contents,
         rest,
     })
+}
+
+// An element that nothing follows.
+pub fn only_element(s: &[u8]) -> Option<FirstElement<'_>>
+    ensures { element_of result ≡ only_element (first_element s.now) }
+{
+    first_element(s).filter(|element| element.rest.is_empty())
 }
 
 // The first element, whose contents may nest `depth` deep.
@@ -53,7 +60,7 @@ pub fn read_element(s: &[u8], depth: u8) -> Option<FirstElement<'_>>
 
 // Whether these are elements up to the end that nest at most `depth` deep, these counted. None are left at depth 0.
 #[cycle(read_element_are_elements)]
-#[tactic(auto, using(crate::proofs::ElementLaws::none_left, crate::proofs::ElementLaws::too_deep, crate::proofs::ElementLaws::first_bad, crate::proofs::ElementLaws::some_left))]
+#[tactic(auto, using(crate::proofs::ElementLaws::none_left, crate::proofs::ElementLaws::too_deep, crate::proofs::ElementLaws::stepped))]
 pub fn are_elements(s: &[u8], depth: u8) -> bool
     ensures { result ≡ whole_elements depth s.now }
 {
@@ -66,5 +73,6 @@ pub fn are_elements(s: &[u8], depth: u8) -> bool
     let Some(element) = read_element(s, depth - 1) else {
         return false;
     };
+    #[tactic(auto, using(crate::proofs::ElementLaws::judged_parts))]
     are_elements(element.rest, depth)
 }

@@ -26,11 +26,7 @@ pub fn read_integer_octets(s: &[u8]) -> Option<(IntegerOctets, &[u8])>
 pub fn read_integer(s: &[u8]) -> Option<(IntegerOctets, &[u8])>
     ensures { integer_read result ≡ with_rest (integer_in (first_element s.now)) (first_element s.now) }
 {
-    let (octets, rest) = read_integer_octets(s)?;
-    if octets.is_padded() {
-        return None;
-    }
-    Some((octets, rest))
+    read_integer_octets(s).filter(|(octets, _)| !octets.is_padded())
 }
 
 // The octets of an object identifier: one or more.

@@ -1,15 +1,12 @@
 -- Laws of event records. Assumes nothing.
 use Prim.Native.Nat.{ℕ, ◌-◌, ◌<◌, ◌≤◌}
 use native.Mathlib.Omega.{arith}
-use mathlib.Core.Path.{◌≡◌, ◌∙◌, refl, ap, sym}
+use mathlib.Core.Path.{◌≡◌, refl, ap, sym}
 use mathlib.Core.List.{List, [], ◌∷◌}
 use lib.ListN.{length, get_or, take, drop}
-use Rattle.std.specs.Prelude.{Ok}
 use Rattle.octets.proofs.Places.{rest}
 use Rattle.events.specs.declared.Refusal.TheVariants.{WrongLength}
-use Rattle.events.specs.EventRecords.{Request, Malformed, of_kind, request}
-use Rattle.events.specs.declared.records.Request.{Request as Asked}
-use Rattle.events.specs.Code.RecordValues.{request_read}
+use Rattle.events.specs.EventRecords.{Malformed, of_kind, request}
 
 pub no_kind : (os : List ℕ) → length os < 1 → request os ≡ Malformed WrongLength
 unfolding request
@@ -21,7 +18,3 @@ pub kind_first : (os : List ℕ) → 1 ≤ length os → request os ≡ of_kind 
 unfolding request
 kind_first [] h = absurd (omega arith)
 kind_first (k ∷ b) h = ap (of_kind k) (sym (rest 1 (k ∷ b)))
-
--- ---- what a caller takes out of an answer
-pub said : {x y : Asked} {q : Request} → request_read (Ok x) ≡ q → x ≡ y → q ≡ request_read (Ok y)
-said h e = sym h ∙ ap (λ (v : Asked). request_read (Ok v)) e

@@ -6,12 +6,25 @@ ghost use Rattle.events.specs.EventRecords.{field, valid_component, of_kind, req
 ghost use Rattle.events.specs.Code.RecordValues.{leg_read, reference_read, request_read};
 
 use crate::Refusal;
-use board::{AuxiliaryState, CallState, Direction, PartyNumber, valid_digits};
+use board::{AuxiliaryState, CallState, Direction, PartyNumber, valid_number, valid_reference};
 use digits::all_zeros;
 use octets::CallReference;
 
+// How many octets the body of each kind has. That of a Release or an Answer is a leg alone.
+const OPEN: usize = 24;
+
+const PROGRESS: usize = 3;
+
+const HOLD: usize = 3;
+
+const LEG: usize = 4;
+
+const FACILITY: usize = 35;
+
+const LEG_FACILITY: usize = 69;
+
 // What a record asks for. A Facility has its component, a Leg facility its count and all 64 octets, as they are
-// passed on with their zeros.
+// passed on with their zeros. A closed set of data, on which the definitions match too.
 #[derive(Clone, Copy)]
 pub enum Request<'a> {
     Open {
@@ -32,14 +45,16 @@ pub enum Request<'a> {
 pub fn record_length(kind: u8) -> usize
     ensures { result ≡ record_length kind }
 {
-    match kind {
-        1 => 25,
-        2 | 3 => 4,
-        4 | 6 => 5,
-        5 => 36,
-        7 => 70,
-        _ => 1,
-    }
+    let body = match kind {
+        1 => OPEN,
+        2 => PROGRESS,
+        3 => HOLD,
+        4 | 6 => LEG,
+        5 => FACILITY,
+        7 => LEG_FACILITY,
+        _ => 0,
+    };
+    1 + body
 }
 
 // The body, where it is as long as its kind has it.
@@ -52,11 +67,11 @@ fn sized<const N: usize>(body: &[u8]) -> Result<&[u8; N], Refusal>
 fn read_reference(octets: [u8; 2]) -> Result<CallReference, Refusal>
     ensures { result ≡ reference_read (field 0 2 octets) }
 {
-    let n = u16::from_be_bytes(octets);
-    if n % 32768 == 0 {
+    let reference = CallReference(u16::from_be_bytes(octets));
+    if !valid_reference(reference) {
         return Err(Refusal::FieldOutOfRange);
     }
-    Ok(CallReference(n))
+    Ok(reference)
 }
 
 // A component of as many octets as the count says, then zeros.
@@ -70,36 +85,33 @@ fn valid_component(count: u8, octets: &[u8]) -> bool
 fn read_open(body: &[u8]) -> Result<Request<'_>, Refusal>
     ensures { request_read result ≡ of_kind 1 body.now }
 {
-    let body = sized::<24>(body)?;
+    let body = sized::<OPEN>(body)?;
     let [r0, r1, l0, l1, l2, l3, direction, presentation, count, ..] = *body;
     let digits: [u8; 15] = *body.last_chunk().unwrap();
     let reference = read_reference([r0, r1])?;
-    let direction = match direction {
-        0 => Direction::Outgoing,
-        1 => Direction::Incoming,
-        _ => return Err(Refusal::FieldOutOfRange),
+    let direction = Direction::try_from(direction)?;
+    let number = PartyNumber {
+        presentation,
+        count,
+        digits,
     };
-    if 1 < presentation || !valid_digits(count, &digits) {
+    if !valid_number(number) {
         return Err(Refusal::FieldOutOfRange);
     }
     Ok(Request::Open {
         reference,
         leg: u32::from_be_bytes([l0, l1, l2, l3]),
         direction,
-        number: PartyNumber {
-            presentation,
-            count,
-            digits,
-        },
+        number,
     })
 }
 
 fn read_progress(body: &[u8]) -> Result<Request<'_>, Refusal>
     ensures { request_read result ≡ of_kind 2 body.now }
 {
-    let body = sized::<3>(body)?;
-    let [r0, r1, state] = *body;
+    let [r0, r1, state] = *sized::<PROGRESS>(body)?;
     let reference = read_reference([r0, r1])?;
+    // Two of the four states: a TryFrom of CallState would take the others too.
     match state {
         4 => Ok(Request::Progress(reference, CallState::CallDelivered)),
         10 => Ok(Request::Progress(reference, CallState::Active)),
@@ -110,31 +122,22 @@ fn read_progress(body: &[u8]) -> Result<Request<'_>, Refusal>
 fn read_hold(body: &[u8]) -> Result<Request<'_>, Refusal>
     ensures { request_read result ≡ of_kind 3 body.now }
 {
-    let body = sized::<3>(body)?;
-    let [r0, r1, auxiliary] = *body;
+    let [r0, r1, auxiliary] = *sized::<HOLD>(body)?;
     let reference = read_reference([r0, r1])?;
-    let auxiliary = match auxiliary {
-        0 => AuxiliaryState::Idle,
-        1 => AuxiliaryState::HoldRequest,
-        2 => AuxiliaryState::CallHeld,
-        3 => AuxiliaryState::RetrieveRequest,
-        _ => return Err(Refusal::FieldOutOfRange),
-    };
-    Ok(Request::Hold(reference, auxiliary))
+    Ok(Request::Hold(reference, AuxiliaryState::try_from(auxiliary)?))
 }
 
 // The body of a Release or an Answer.
 fn read_leg(body: &[u8]) -> Result<u32, Refusal>
     ensures { result ≡ leg_read body.now }
 {
-    let body = sized::<4>(body)?;
-    Ok(u32::from_be_bytes(*body))
+    Ok(u32::from_be_bytes(*sized::<LEG>(body)?))
 }
 
 fn read_facility(body: &[u8]) -> Result<Request<'_>, Refusal>
     ensures { request_read result ≡ of_kind 5 body.now }
 {
-    let body = sized::<35>(body)?;
+    let body = sized::<FACILITY>(body)?;
     let [r0, r1, count, ..] = *body;
     let octets: &[u8; 32] = body.last_chunk().unwrap();
     let reference = read_reference([r0, r1])?;
@@ -147,7 +150,7 @@ fn read_facility(body: &[u8]) -> Result<Request<'_>, Refusal>
 fn read_leg_facility(body: &[u8]) -> Result<Request<'_>, Refusal>
     ensures { request_read result ≡ of_kind 7 body.now }
 {
-    let body = sized::<69>(body)?;
+    let body = sized::<LEG_FACILITY>(body)?;
     let [l0, l1, l2, l3, count, ..] = *body;
     let octets: &[u8; 64] = body.last_chunk().unwrap();
     if !valid_component(count, octets) {
@@ -156,7 +159,7 @@ fn read_leg_facility(body: &[u8]) -> Result<Request<'_>, Refusal>
     Ok(Request::LegFacility(u32::from_be_bytes([l0, l1, l2, l3]), count, octets))
 }
 
-// A kind stays an octet: it is matched here and for its length, which an unlisted kind has too, and nowhere else.
+// A kind stays an octet: every octet has a length, listed or not, so an enum would need a case for the others.
 fn read_body(kind: u8, body: &[u8]) -> Result<Request<'_>, Refusal>
     ensures { request_read result ≡ of_kind kind body.now }
 {

@@ -53,3 +53,6 @@ rest {x} y p h = omega (arith, length-append x y, p.place, p.long, h)
 
 pub next : {x y : List ℕ} {a b c : Filling} → Put x a b → (HasRoom y b → Put y b c) → HasRoom (x ++ y) a → Put (x ++ y) a c
 next {x} {y} {a} p q h = join p (q (rest y p h)) (front x y a h)
+
+pub both : {x y : List ℕ} {a b c : Filling} → (HasRoom x a → Put x a b) → (HasRoom y b → Put y b c) → HasRoom (x ++ y) a → Put (x ++ y) a c
+both {x} {y} {a} p q h = next (p (front x y a h)) q h

@@ -4,7 +4,7 @@
 ghost use Rattle.std.specs.Prelude.{◌≡◌};
 ghost use Rattle.filling.specs.Code.Putting.{PutIfRoom};
 
-// A buffer, and the place in it that the next octet goes to.
+// A buffer, and the place in it that the next octet goes to. No Model: the two fields are all that definitions speak of.
 #[derive(Drop)]
 pub struct Filling<'a> {
     buffer: &'a mut [u8],
@@ -28,15 +28,17 @@ impl<'a> Filling<'a> {
         self.at
     }
 
-    // Puts the octets there, and the place moves behind them. Where the buffer has no room for them, nothing changes.
+    // Puts the octets there, and the place moves behind them. Where the buffer has no room for them, nothing changes:
+    // `end` shows which, and callers, who have tested the room, would only unwrap a result.
     pub fn put(&mut self, octets: &[u8])
         ensures { PutIfRoom octets.now self.old self.new }
     {
-        if let Some(end) = self.at.checked_add(octets.len())
-            && end <= self.buffer.len()
+        let Filling { buffer, at } = self;
+        if let Some(end) = at.checked_add(octets.len())
+            && end <= buffer.len()
         {
-            self.buffer[self.at..end].copy_from_slice(octets);
-            self.at = end;
+            buffer[*at..end].copy_from_slice(octets);
+            *at = end;
         }
     }
 }

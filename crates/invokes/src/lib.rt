@@ -4,28 +4,19 @@
 ghost use Rattle.std.specs.Prelude.{◌≡◌};
 ghost use Rattle.octets.specs.Numbers.{fewest};
 ghost use Rattle.filling.specs.Code.Putting.{HasRoom, Put};
-ghost use Rattle.component.specs.Answers.{element, integer};
-ghost use Rattle.component.specs.Reading.{ect_object};
 ghost use Rattle.invokes.specs.Invokes.{operation_octets};
 ghost use Rattle.invokes.specs.Contract.{Writes};
 
-use component::Operation;
+use component::writing::{put_integer, put_object};
+use component::{ECT_EXECUTE, ECT_LINK_ID_REQUEST, EXPLICIT_ECT_EXECUTE, Operation};
 use filling::Filling;
 use octets::{Integer, IntegerOctets, InvokeIdentifier};
-use std::error::Error;
-use std::fmt;
+use thiserror::Error;
 
 // Why an invoke was not written: the buffer has fewer than 32 octets.
-#[derive(Clone, Copy, Debug)]
+#[derive(Clone, Copy, Debug, Error)]
+#[error("the buffer has fewer than 32 octets")]
 pub struct BufferTooSmall;
-
-impl fmt::Display for BufferTooSmall {
-    fn fmt<W: fmt::Write>(&self, f: &mut fmt::Formatter<W>) -> fmt::Result {
-        write!(f, "the buffer has fewer than 32 octets")
-    }
-}
-
-impl Error for BufferTooSmall {}
 
 // An invoke identifier in the fewest octets.
 fn identifier_octets(identifier: InvokeIdentifier) -> IntegerOctets
@@ -34,35 +25,16 @@ fn identifier_octets(identifier: InvokeIdentifier) -> IntegerOctets
     Integer::from(identifier).into()
 }
 
-fn put_integer(o: IntegerOctets, out: &mut Filling)
-    requires { HasRoom (integer o) out.old }
-    ensures { Put (integer o) out.old out.new }
-{
-    match o {
-        IntegerOctets::One(a) => out.put(&[0x02, 1, a]),
-        IntegerOctets::Two(a, b) => out.put(&[0x02, 2, a, b]),
-    }
-}
-
-// An object identifier of the supplementary service, with this last number.
-fn put_object(last: u8, out: &mut Filling)
-    requires { HasRoom (element 0x06 (ect_object last)) out.old }
-    ensures { Put (element 0x06 (ect_object last)) out.old out.new }
-{
-    out.put(&[0x06, 6, 0x04, 0x00, 0x82, 0x71, 0x01, last]);
-}
-
 fn put_operation(operation: Operation, out: &mut Filling)
-    requires { HasRoom (operation_octets operation) out.old }
-    ensures { Put (operation_octets operation) out.old out.new }
+    ensures { HasRoom (operation_octets operation) out.old → Put (operation_octets operation) out.old out.new }
 {
     match operation {
-        Operation::EctExecute => put_integer(IntegerOctets::One(6), out),
+        Operation::EctExecute => put_integer(IntegerOctets::One(ECT_EXECUTE), out),
         Operation::ExplicitEctExecute(link) => {
-            put_object(0x01, out);
+            put_object(EXPLICIT_ECT_EXECUTE, out);
             put_integer(Integer::from(link).into(), out);
         }
-        Operation::EctLinkIdRequest => put_object(0x04, out),
+        Operation::EctLinkIdRequest => put_object(ECT_LINK_ID_REQUEST, out),
     }
 }
 

@@ -140,9 +140,11 @@ some_fit s room h = rw (text_some s h) (go (dec_lt (room / 2) (length s)))
 
 -- ---- a text at the front
 
-pub filled : {x out after : List ℕ} {n : ℕ} {f g : Filling} → f.buffer.now ≡ out → f.at ≡ 0 → length x ≤ length out → (HasRoom x f → Put x f g) → after ≡ g.buffer.now → n ≡ g.at → Fitted x out after (Some n)
-filled {x} {out} e z h p b c =
-    let q = p (rw (e, z) (omega (arith, h))) in
+pub all_put : {x out : List ℕ} {f g : Filling} → (HasRoom x f → Put x f g) → f.buffer.now ≡ out → f.at ≡ 0 → length x ≤ length out → Put x f g
+all_put p e z h = p (rw (e, z) (omega (arith, h)))
+
+pub filled : {x out after : List ℕ} {n : ℕ} {f g : Filling} → f.buffer.now ≡ out → f.at ≡ 0 → length x ≤ length out → Put x f g → after ≡ g.buffer.now → n ≡ g.at → Fitted x out after (Some n)
+filled {x} {out} e z h q b c =
     record {
       is = b ∙ q.is ∙ rw (e, z, le-leb (length x) (length out) h);
       count = ap Some (c ∙ q.place) ∙ rw (z, zero-add (length x), le-leb (length x) (length out) h);

@@ -21,28 +21,31 @@ const LINE_FEED: u8 = b'\n';
 const DASH: u8 = b'-';
 
 // How many digits a number has in decimal.
+#[tactic(auto, using(crate::proofs::TextLaws::digits_by_log))]
 fn decimal_length(n: u64) -> usize
     ensures { (result ≡ length (decimal n)) × (result ≤ 20) }
 {
     n.checked_ilog10().unwrap_or(0) as usize + 1
 }
 
+// The private writers promise where there is room: the length of the line that they fill was tested once.
+#[tactic(auto, using(crate::proofs::TextLaws::decimal_written))]
 fn put_decimal(n: u64, line: &mut Filling)
-    requires { HasRoom (decimal n) line.old }
-    ensures { Put (decimal n) line.old line.new }
+    ensures { HasRoom (decimal n) line.old → Put (decimal n) line.old line.new }
 {
     line.put(itoa::Buffer::new().format(n).as_bytes());
 }
 
 // A number in decimal, and the octet behind it.
 fn put_number(n: u64, behind: u8, line: &mut Filling)
-    requires { HasRoom (decimal n ++ (behind ∷ [])) line.old }
-    ensures { Put (decimal n ++ (behind ∷ [])) line.old line.new }
+    ensures { HasRoom (decimal n ++ (behind ∷ [])) line.old
+        → Put (decimal n ++ (behind ∷ [])) line.old line.new }
 {
     put_decimal(n, line);
     line.put(&[behind]);
 }
 
+// The `hex` crate's writer returns a Result and wants a slice of its own length, no plainer than two digits.
 fn hex_digit(d: u8) -> u8
     requires { d < 16 }
     ensures { result ≡ hex_digit d }
@@ -51,15 +54,13 @@ fn hex_digit(d: u8) -> u8
 }
 
 fn put_octet(octet: u8, line: &mut Filling)
-    requires { HasRoom (hex_octet octet) line.old }
-    ensures { Put (hex_octet octet) line.old line.new }
+    ensures { HasRoom (hex_octet octet) line.old → Put (hex_octet octet) line.old line.new }
 {
     line.put(&[hex_digit(octet / 16), hex_digit(octet % 16)]);
 }
 
 fn put_octets(octets: &[u8], line: &mut Filling)
-    requires { HasRoom (octets_text octets.now) line.old }
-    ensures { Put (octets_text octets.now) line.old line.new }
+    ensures { HasRoom (octets_text octets.now) line.old → Put (octets_text octets.now) line.old line.new }
 {
     if octets.is_empty() {
         line.put(&[DASH]);
@@ -70,6 +71,7 @@ fn put_octets(octets: &[u8], line: &mut Filling)
     }
 }
 
+#[tactic(auto, using(crate::proofs::TextLaws::none_fits, crate::proofs::TextLaws::some_fit))]
 fn octets_fit(octets: &[u8], room: usize) -> bool
     ensures { result ≡ leb (length (octets_text octets.now)) room }
 {
@@ -88,13 +90,12 @@ fn record_fits(number: u64, kind: u8, returned: u8, octets: &[u8], room: usize) 
         + decimal_length(u64::from(kind))
         + decimal_length(u64::from(returned))
         + 4;
-    match room.checked_sub(fields) {
-        Some(left) => octets_fit(octets, left),
-        None => false,
-    }
+    room.checked_sub(fields)
+        .is_some_and(|left| octets_fit(octets, left))
 }
 
 // The line of a record: its number, its kind, what was returned, and the octets written.
+#[tactic(auto, using(crate::proofs::TextLaws::line_length, crate::proofs::TextLaws::spaced_length))]
 pub fn record_line(
     number: u64,
     kind: u8,
@@ -144,7 +145,7 @@ fn place(text: &[u8], out: &mut [u8]) -> Option<usize>
     Some(line.end())
 }
 
-// The first line.
+// The first line; it and the one below are two lines of the format, each one call of `place`.
 pub fn first_line(out: &mut [u8]) -> Option<usize>
     ensures { Fitted first_line out.old out.new result }
 {

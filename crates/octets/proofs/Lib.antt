@@ -1,5 +1,4 @@
 -- Laws of lists, numbers and LinkIds, for the proofs of this crate and of those above it.
-pub mod Appending
 pub mod Laws
 pub mod Lent
 pub mod Lists

@@ -169,14 +169,6 @@ module _ {A : Type 0} where
       go true h e f = let d : x ≡ y = cc in (Memᴰ.head (sym d), ap p (sym d) ∙ h)
       go false h e f = let r = f e in (Memᴰ.tail r.0, r.1)
 
-  pub find_none : (p : A → Bool) (l : List A) → find p l ≡ None → any p l ≡ false
-  find_none p [] e = refl
-  find_none p (x ∷ l) e = go (p x) e (find_none p l)
-    where
-      go : (b : Bool) → or_else b x (find p l) ≡ None → (find p l ≡ None → any p l ≡ false) → (b || any p l) ≡ false
-      go true e f = let z : ◌≡◌ {A = ℕ} 0 1 = cc in absurd (omega arith)
-      go false e f = f e
-
   -- an element for which the test fails in all of the list is kept nowhere
   pub filter_none : (p : A → Bool) (l : List A) → any p l ≡ false → filter p l ≡ []
   filter_none p [] t = refl

@@ -3,11 +3,11 @@ use Rattle.std.specs.Prelude.{None, Option, Some}
 use Prim.Native.Nat.{ℕ, suc, ◌+◌, ◌≤◌, ◌<◌}
 use native.Mathlib.Numerals.{add-one}
 use native.Mathlib.Omega.{arith}
-use mathlib.Core.Path.{◌≡◌, refl, sym, ap, ap₂, ◌∙◌}
+use mathlib.Core.Path.{◌≡◌, refl, ap, ap₂}
 use mathlib.Core.Bool.{Bool, true, false, ◌&&◌, ◌||◌, not}
-use mathlib.Core.List.{List, [], ◌∷◌, ◌++◌, Memᴰ}
-use lib.ListN.{length, get_or, take, drop, drop_of_length-le}
-use lib.Seq.{drop-cons, length-take-le, get_or-take}
+use mathlib.Core.List.{List, [], ◌∷◌, Memᴰ}
+use lib.ListN.{length, get_or, drop, drop_of_length-le}
+use lib.Seq.{drop-cons}
 use Rattle.octets.specs.Lists.{any, all, cons_if, filter, distinct, cons_opt, filter_map}
 use Rattle.octets.specs.Tests.{has, none_or, has_both, bit}
 use Rattle.octets.proofs.Lists.{any_ext}
@@ -28,48 +28,6 @@ module _ {A : Type 0} where
 
   pub past_end : (ys : List A) (i : ℕ) → length ys ≤ i → Past ys i
   past_end ys i h = record { rest = drop_of_length-le ys h }
-
-  -- the same where the loop ends at n
-  pub step_first : (n : ℕ) (ys : List A) (i : ℕ) (d : A) → n ≤ length ys → i < n → Step (take n ys) i (get_or ys i d)
-  step_first n ys i d l h =
-      let e = length-take-le n ys l in
-      record { split = rw (← get_or-take n ys i d h, add-one) (drop-cons (take n ys) i d (omega arith)) }
-
-  pub past_first : (n : ℕ) (ys : List A) (i : ℕ) → n ≤ length ys → n ≤ i → Past (take n ys) i
-  past_first n ys i l h = let e = length-take-le n ys l in record { rest = drop_of_length-le (take n ys) {i = i} (omega arith) }
-
--- ---- one step of a loop: r is what the code found of the element at place i
-
-module _ {A : Type 0} {ys : List A} {i : ℕ} {x : A} (s : Step ys i x) {r : Bool} where
-  module _ (p : A → Bool) (e : r ≡ p x) where
-    pub all_yes : r ≡ true → all p (drop (i + 1) ys) ≡ all p (drop i ys)
-    all_yes t = rw (s.split, sym e ∙ t)
-
-    pub all_no : r ≡ false → false ≡ all p (drop i ys)
-    all_no t = rw (s.split, sym e ∙ t)
-
-    pub any_yes : r ≡ true → true ≡ any p (drop i ys)
-    any_yes t = rw (s.split, sym e ∙ t)
-
-    pub any_no : r ≡ false → any p (drop (i + 1) ys) ≡ any p (drop i ys)
-    any_no t = rw (s.split, sym e ∙ t)
-
-  module _ (same : A → A → Bool) (e : r ≡ any (same x) (drop (i + 1) ys)) where
-    pub distinct_yes : r ≡ true → false ≡ distinct same (drop i ys)
-    distinct_yes t = rw (s.split, sym e ∙ t)
-
-    pub distinct_no : r ≡ false → distinct same (drop (i + 1) ys) ≡ distinct same (drop i ys)
-    distinct_no t = rw (s.split, sym e ∙ t)
-
-module _ {A : Type 0} {ys : List A} {i : ℕ} (s : Past ys i) where
-  pub all_end : (p : A → Bool) → true ≡ all p (drop i ys)
-  all_end p = rw s.rest
-
-  pub any_end : (p : A → Bool) → false ≡ any p (drop i ys)
-  any_end p = rw s.rest
-
-  pub distinct_end : (same : A → A → Bool) → true ≡ distinct same (drop i ys)
-  distinct_end same = rw s.rest
 
 -- ---- a loop that counts
 
@@ -160,12 +118,6 @@ module _ {A B : Type 0} (f : A → Option B) where
           length (cons_opt o (filter_map f l)) ≡ length (cons_if (has (λ (y : B). true) o) x (filter (λ (x : A). has (λ (y : B). true) (f x)) l))
       go None e = e
       go (Some y) e = ap suc e
-
-module _ {A B : Type 0} where
-  -- an element at the end that gives nothing
-  pub filter_map_skip : (f : A → Option B) (l : List A) (x : A) → f x ≡ None → filter_map f (l ++ (x ∷ [])) ≡ filter_map f l
-  filter_map_skip f [] x e = rw e
-  filter_map_skip f (y ∷ l) x e = ap (cons_opt (f y)) (filter_map_skip f l x e)
 
 -- ---- two tests in one
 

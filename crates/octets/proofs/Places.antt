@@ -1,37 +1,20 @@
 -- Laws of places in a list: the lowest place that passes a test, the element there, and what a loop that goes through the places has so far.
 use Rattle.std.specs.Prelude.{None, Option, Some, option_map}
-use Prim.Native.Nat.{ℕ, zero, suc, ◌+◌, ◌-◌, ◌≤◌, ◌<◌, zero-le, suc-le-suc}
+use Prim.Native.Nat.{ℕ, zero, suc, ◌+◌, ◌-◌, ◌<◌, zero-le, suc-le-suc}
 use native.Mathlib.Nat.{le_of_suc-le-suc, not-suc-le-zero}
 use native.Mathlib.Numerals.{add-one}
 use native.Mathlib.Omega.{arith}
-use mathlib.Core.Path.{◌≡◌, refl, sym, ap, ap₂, ◌∙◌, subst}
+use mathlib.Core.Path.{◌≡◌, refl, sym, ap, ap₂, ◌∙◌}
 use mathlib.Core.Bool.{Bool, true, false, ◌||◌}
 use mathlib.Core.List.{List, [], ◌∷◌, ◌++◌, map}
-use lib.ListN.{length, get_or, set, take, drop, drop_of_length-le, length-drop}
-use lib.Seq.{drop-cons, take_all}
+use lib.ListN.{length, get_or, set, take, drop, length-drop}
+use lib.Seq.{take_all}
 use Rattle.octets.specs.Lists.{any, or_else, find, cons_opt, filter_map, place_from}
-use Rattle.octets.proofs.Lists.{true_not_false}
 use Rattle.octets.specs.Tests.{has, bind_option}
 
 -- what a callee ensures of its result, and what the branch on it says
 pub told : {A : Type 0} {r v t : A} → r ≡ v → r ≡ t → v ≡ t
 told e h = sym e ∙ h
-
--- ---- a loop that looks for the lowest place: from its test of element i to the search of what is left
-
-module _ {A : Type 0} (p : A → Bool) (l : List A) (i : ℕ) where
-  module _ (d : A) (r : Bool) (h : i < length l) (e : r ≡ p (get_or l i d)) where
-    pub place_yes : r ≡ true → Some i ≡ place_from p i (drop i l)
-    unfolding place_from
-    place_yes t = rw (drop-cons l i d h, told e t)
-
-    pub place_no : r ≡ false → place_from p (i + 1) (drop (i + 1) l) ≡ place_from p i (drop i l)
-    unfolding place_from
-    place_no t = rw (drop-cons l i d h, told e t, add-one)
-
-  pub place_end : length l ≤ i → None ≡ place_from p i (drop i l)
-  unfolding place_from
-  place_end h = rw (drop_of_length-le l h)
 
 -- ---- the lowest place
 
@@ -95,13 +78,6 @@ module _ {A : Type 0} where
       go true o f q = refl
       go false None f q = let z : ◌≡◌ {A = ℕ} 0 1 = cc in absurd (omega arith)
       go false (Some j) f q = f j refl
-
-  pub none_place : (p : A → Bool) (l : List A) → any p l ≡ false → place_from p 0 l ≡ None
-  none_place p l a = go (place_from p 0 l) refl
-    where
-      go : (o : Option ℕ) → place_from p 0 l ≡ o → place_from p 0 l ≡ None
-      go None e = e
-      go (Some i) e = absurd (true_not_false (place_some p l i e) a)
 
   pub place_ext : (p q : A → Bool) (k : ℕ) (l : List A) → ((x : A) → p x ≡ q x) → place_from p k l ≡ place_from q k l
   unfolding place_from
@@ -173,35 +149,11 @@ module _ {A : Type 0} (f : A → A) where
   changed_set zero (x ∷ l) d h = refl
   changed_set (suc i) (x ∷ l) d h = ap (λ (r : List A). f x ∷ r) (changed_set i l d (le_of_suc-le-suc h))
 
-  pub changed_length : (i : ℕ) (l : List A) → length (changed_to i l) ≡ length l
-  changed_length zero l = refl
-  changed_length (suc i) [] = refl
-  changed_length (suc i) (x ∷ l) = ap suc (changed_length i l)
-
   pub changed_step : (i : ℕ) (l now : List A) (d v : A) → i < length l → now ≡ changed_to i l → v ≡ f (get_or now i d) → set now i v ≡ changed_to (i + 1) l
   changed_step i l now d v h e w =
       ap₂ (λ (r : List A) (x : A). set r i x) e (w ∙ ap (λ (r : List A). f (get_or r i d)) e ∙ ap f (changed_at i l d))
       ∙ changed_set i l d h
       ∙ ap (λ (n : ℕ). changed_to n l) (sym (add-one i))
-
-  changed_same : (i : ℕ) (l : List A) (d : A) → i < length l → f (get_or l i d) ≡ get_or l i d → changed_to i l ≡ changed_to (suc i) l
-  changed_same i [] d h e = absurd (not-suc-le-zero h)
-  changed_same zero (x ∷ l) d h e = ap (λ (y : A). y ∷ l) (sym e)
-  changed_same (suc i) (x ∷ l) d h e = ap (λ (r : List A). f x ∷ r) (changed_same i l d (le_of_suc-le-suc h) e)
-
-  -- a step that leaves its element as it is
-  pub changed_kept : (i : ℕ) (l now : List A) (d : A) → i < length l → now ≡ changed_to i l → f (get_or now i d) ≡ get_or now i d → now ≡ changed_to (i + 1) l
-  changed_kept i l now d h e w =
-      let k = changed_at i l d in
-      e
-      ∙ changed_same i l d h (subst (λ (x : A). f x ≡ x) (ap (λ (r : List A). get_or r i d) e ∙ k) w)
-      ∙ ap (λ (n : ℕ). changed_to n l) (sym (add-one i))
-
-  pub changed_all : (i : ℕ) (l : List A) → length l ≤ i → changed_to i l ≡ map f l
-  changed_all zero [] h = refl
-  changed_all zero (x ∷ l) h = absurd (not-suc-le-zero h)
-  changed_all (suc i) [] h = refl
-  changed_all (suc i) (x ∷ l) h = ap (λ (r : List A). f x ∷ r) (changed_all i l (le_of_suc-le-suc h))
 
 -- ---- a part from a place to the end
 

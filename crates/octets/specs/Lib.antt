@@ -3,4 +3,3 @@ pub mod Lists
 pub mod Tests
 pub mod Numbers
 pub mod Buffers
-pub mod Code

@@ -5,11 +5,11 @@ ghost use Rattle.std.specs.Prelude.{◌≡◌};
 ghost use Rattle.octets.specs.Numbers.{signed, bits, integer_of, padded, fewest, next_link_id};
 
 // A call reference: unsigned; its low 15 bits are not all zero where a board is sound.
-#[derive(Clone, Copy, Debug, PartialEq, Eq)]
+#[derive(Clone, Copy, Debug, Default, PartialEq, Eq)]
 pub struct CallReference(pub u16);
 
 // A LinkId: from -32768 to 32767, and negative ones are ordinary.
-#[derive(Clone, Copy, Debug, PartialEq, Eq)]
+#[derive(Clone, Copy, Debug, Default, PartialEq, Eq)]
 pub struct LinkId(pub i16);
 
 // An invoke identifier, by which an answer names its invoke: from -32768 to 32767.
@@ -29,14 +29,15 @@ pub enum IntegerOctets {
 
 impl IntegerOctets {
     // Whether two octets say what the second alone would: their first nine bits are all equal.
+    // By arithmetic, so that it says the rule's own words.
     pub fn is_padded(self) -> bool
         ensures { result ≡ padded self }
     {
         match self {
             IntegerOctets::One(_) => false,
             IntegerOctets::Two(a, b) => {
-                let first_nine = (a as u16) * 2 + (b as u16) / 128;
-                (first_nine == 0) | (first_nine == 511)
+                let first_nine = u16::from(a) * 2 + u16::from(b) / 128;
+                first_nine == 0 || first_nine == 511
             }
         }
     }
@@ -83,6 +84,7 @@ impl From<InvokeIdentifier> for Integer {
     }
 }
 
+// Not From, which would not say that bits are read anew.
 impl Integer {
     // The integer whose two's complement is these sixteen bits.
     pub fn from_bits(n: u16) -> Integer

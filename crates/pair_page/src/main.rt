@@ -8,6 +8,7 @@ use verdicts::{pair_table, situation, verdict_in};
 
 mod situations;
 
+// Three functions of names, as a name is all that is printed: a wrapper with Display is no plainer.
 fn state_name(state: CallState) -> &'static str {
     match state {
         CallState::OutgoingCallProceeding => "3 Outgoing Call Proceeding",

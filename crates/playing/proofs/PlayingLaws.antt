@@ -1,5 +1,5 @@
 -- What `tell` makes of a record, and what one record more makes of a piece. Assumes nothing.
-use Prim.Native.Nat.{ℕ, zero, suc, ◌+◌, ◌-◌, ◌≤◌, ◌<◌}
+use Prim.Native.Nat.{ℕ, zero, suc, ◌+◌, ◌-◌, ◌^◌, ◌≤◌, ◌<◌}
 use native.Mathlib.Omega.{arith}
 use borrow.Author.Tests.{le-leb, lt-leb, le-ltb, lt-ltb, eq-eqb, ne_eqb, eqb-true, eqb-false}
 use Rattle.std.specs.Prelude.{Option, None, Some, IsSome}
@@ -33,12 +33,12 @@ module _ {o : Outcome} {before after : List ℕ} {r : Stepped} (s : OutcomeOf o 
   pub told : {number returned count written : ℕ} {event out out' : List ℕ} → returned ≡ answer_number r.answer → count ≡ answer_count r.answer
       → Fitted (record_line number (get_or event 0 0) returned (take count after)) out out' (Some written)
       → length (outcome_line number event o) ≤ longest_line
-      → PlaysRecordAs o number event out out' (record { board = r.board; returned = returned; written = written })
+      → PlaysRecordAs o number event out out' (record { board = r.board; answer = r.answer; written = written })
   told e f p h =
       let g = e ∙ s.answer in
       record {
         board = s.board;
-        returned = g;
+        returned = s.answer;
         line = rw (g, f, replies_are s) at p;
         short = h;
       }
@@ -48,9 +48,11 @@ pub outcome_short : (o : Outcome) (number : ℕ) (event : List ℕ) → number <
     → o.returned < 256 → length (octets o.replies) ≤ 128 → length (outcome_line number event o) ≤ longest_line
 outcome_short o number event h k r l = line_short number (get_or event 0 0) o.returned (octets o.replies) h k r l
 
--- a line that fits is written
-pub written : {text before after : List ℕ} {r : Option ℕ} → Fitted text before after r → length text ≤ length before → IsSome r
-written {text} {before} p h = rw (p.count, le-leb (length text) (length before) h)
+-- the line of a record is written wherever the longest fits
+pub line_written : {number kind returned : ℕ} (s : List ℕ) {before after : List ℕ} {r : Option ℕ} → Fitted (record_line number kind returned s) before after r
+    → number < 2 ^ 64 → kind < 256 → returned < 256 → length s ≤ 128 → longest_line ≤ length before → IsSome r
+line_written {number} {kind} {returned} s {before} p h k l m room =
+    rw (p.count, le-leb (length (record_line number kind returned s)) (length before) (omega (arith, room, line_short number kind returned s h k l m)))
 
 -- ---- the record in front of a piece
 

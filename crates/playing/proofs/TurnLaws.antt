@@ -1,12 +1,11 @@
 -- The records of a piece that are played so far, one record more, and the pause. Assumes nothing.
 use Prim.Native.Nat.{ℕ, ◌+◌, ◌-◌, ◌≤◌, ◌<◌}
 use native.Mathlib.Omega.{arith}
-use native.Mathlib.Nat.{zero-add}
 use borrow.Author.Tests.{le-leb}
 use Rattle.std.specs.Prelude.{Some}
 use Rattle.std.proofs.lemmas.Option.{same_Some}
 use mathlib.Core.Bool.{Bool, true, false}
-use mathlib.Core.Path.{◌≡◌, ◌∙◌, ap, refl, sym, subst}
+use mathlib.Core.Path.{◌≡◌, ◌∙◌, ap, sym, subst}
 use mathlib.Core.List.{List, [], ◌++◌, append-nil, append_assoc}
 use lib.ListN.{length, take, drop, length-append, length-drop, drop_of_length-le}
 use lib.Seq.{drop-drop, take_at, drop_at}
@@ -14,6 +13,7 @@ use Rattle.board.specs.declared.Board.{Board}
 use Rattle.board.specs.Soundness.{sound}
 use Rattle.rules.specs.Step.{step, step_tested}
 use Rattle.rules.proofs.SoundKept.{sound_kept, as_many_rows}
+use Rattle.ect.specs.Contract.{answer_number}
 use Rattle.log_text.specs.Writing.{Fitted}
 use Rattle.playing.specs.declared.Pause.{Pause}
 use Rattle.playing.specs.declared.Pause.TheVariants.{End}
@@ -29,9 +29,6 @@ pub record SoFar (b₀ : Board) (n₀ : ℕ) (piece : List ℕ) (last : Bool) (o
   pub buffer : out ≡ written ++ drop text out₀
   pub goes_on : playing b₀ n₀ piece last (length out₀) ≡ with_record read written (playing b n (drop read piece) last (length out₀ - text))
 
-none_in_front : (p : Playing) → with_record 0 [] p ≡ p
-none_in_front p = ap (λ (r : ℕ). record { board = p.board; number = p.number; read = r; text = p.text; pause = p.pause }) (zero-add p.read)
-
 two_in_front : (a c : ℕ) (x y : List ℕ) (p : Playing) → with_record a x (with_record c y p) ≡ with_record (a + c) (x ++ y) p
 two_in_front a c x y p =
     let e : a + (c + p.read) ≡ a + c + p.read = omega arith in
@@ -42,11 +39,6 @@ alone : (read : ℕ) (written : List ℕ) (b : Board) (n : ℕ) (p : Pause) →
 alone read written b n p =
     let e : read + 0 ≡ read = omega arith in
     rw (e, append-nil written)
-
-pub starts : (b : Board) (n : ℕ) (piece : List ℕ) (last : Bool) (out : List ℕ) → SoFar b n piece last out b n 0 0 out
-starts b n piece last out =
-    let e : length out - 0 ≡ length out = omega arith in
-    record { written = []; count = refl; buffer = refl; goes_on = rw e (sym (none_in_front (playing b n piece last (length out)))) }
 
 module _ {b₀ b : Board} {n₀ n read text : ℕ} {piece out₀ out : List ℕ} {last : Bool} (s : SoFar b₀ n₀ piece last out₀ b n read text out) where
   pub pauses : {p : Pause} → playing b n (drop read piece) last (length out₀ - text) ≡ pausing b n p → Plays b₀ n₀ piece last out₀ out (paused_at b n read text p)
@@ -90,7 +82,7 @@ module _ {b₀ b : Board} {n₀ n read text : ℕ} {piece out₀ out : List ℕ}
   in_front : {p : Playing} (next : Playing) → p ≡ with_record taken line next → with_record read s.written p ≡ with_record (read + taken) (s.written ++ line) next
   in_front next e = ap (with_record read s.written) e ∙ two_in_front read taken s.written line next
 
-  pub turns_on : stops_reading r.returned ≡ false →
+  pub turns_on : stops_reading (answer_number r.answer) ≡ false →
       SoFar b₀ n₀ piece last out₀ r.board (n + 1) (read + taken) (text + r.written) (take text out ++ (part' ++ drop (length out - text) (drop text out)))
   turns_on f = record {
     written = s.written ++ line;
@@ -111,7 +103,7 @@ module _ {b₀ b : Board} {n₀ n read text : ℕ} {piece out₀ out : List ℕ}
           rw (t.board, is, front)
           (plays_on b n (drop read piece) last (length out₀ - text) left (omega (arith, room, long)) (omega (arith, front)) fewer (rw (sym front, sym is, sym t.returned) f))
 
-  pub turns_last : stops_reading r.returned ≡ true →
+  pub turns_last : stops_reading (answer_number r.answer) ≡ true →
       Plays b₀ n₀ piece last out₀ (take text out ++ (part' ++ drop (length out - text) (drop text out))) (paused_at r.board (n + 1) (read + taken) (text + r.written) End)
   turns_last f =
       let q = s.goes_on ∙ in_front (pausing r.board (n + 1) End) stops ∙ alone (read + taken) (s.written ++ line) r.board (n + 1) End in

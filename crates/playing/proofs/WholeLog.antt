@@ -178,10 +178,10 @@ module _ {b : Board} {n : ℕ} {piece later before after : List ℕ} {last : Boo
   leads_on =
       piece_of_log (length piece) b n piece later last (length before) (omega arith) z ∙ rw (text_is, h.met.is)
 
-not_ended : (p : Pause) (b : Board) (n : ℕ) (left : List ℕ) → (p ≡ End → ⊥) → after_pause p b n left ≡ log_end b n left
-not_ended MoreInput b n left h = refl
-not_ended FullOutput b n left h = refl
-not_ended End b n left h = absurd (h refl)
+not_ended : (p : Pause) (b : Board) (n : ℕ) (unread : List ℕ) → (p ≡ End → ⊥) → after_pause p b n unread ≡ log_end b n unread
+not_ended MoreInput b n unread h = refl
+not_ended FullOutput b n unread h = refl
+not_ended End b n unread h = absurd (h refl)
 
 -- whatever the pieces and the buffers, the calls give the text of the log, and leave its board and the number of its last record
 pub pieces_give_the_log : {b c : Board} {n m : ℕ} {log text : List ℕ} → Calls b n log text c m →

@@ -4,6 +4,7 @@ use Rattle.board.specs.declared.Board.{Board}
 use Rattle.events.specs.Records.{record_length}
 use Rattle.rules.specs.Step.{Outcome, step_tested}
 use Rattle.octets.specs.Buffers.{front_written}
+use Rattle.ect.specs.Contract.{answer_number}
 use Rattle.log_text.specs.Writing.{Fitted}
 use Rattle.playing.specs.declared.PlayedRecord.{PlayedRecord}
 use Rattle.playing.specs.declared.Pause.{Pause}
@@ -87,7 +88,7 @@ Plays b n piece last before after r = PlaysAs (playing b n piece last (length be
 -- the board, the number returned and the line are those of an outcome; the line is short, so that a buffer of 512 octets has room for it
 pub record PlaysRecordAs (o : Outcome) (number : ℕ) (event before after : List ℕ) (r : PlayedRecord) : Type 0 where
   pub board : r.board ≡ o.board
-  pub returned : r.returned ≡ o.returned
+  pub returned : answer_number r.answer ≡ o.returned
   pub line : Fitted (outcome_line number event o) before after (Some r.written)
   pub short : length (outcome_line number event o) ≤ longest_line
 

@@ -5,11 +5,13 @@ mod records;
 
 ghost use Rattle.std.specs.Prelude.{◌≡◌, ◌≤◌, ◌<◌, length, get_or, IfSome};
 ghost use Rattle.board.specs.Soundness.{sound as sound_board};
+ghost use Rattle.ect.specs.Contract.{answer_number};
 ghost use Rattle.playing.specs.Log.{stops_reading};
 ghost use Rattle.playing.specs.Playing.{PlaysRecord, front, longest_line, pause_at_end, Plays};
 
 use board::Board;
 use ect::step_tested;
+use events::Refusal;
 use events::records::record_length;
 use records::{returned, written};
 use soundness::sound;
@@ -41,16 +43,8 @@ pub struct Played {
 #[derive(Clone, Copy)]
 pub struct PlayedRecord {
     pub board: Board,
-    pub returned: u8,
+    pub answer: Result<usize, Refusal>,
     pub written: usize,
-}
-
-// The kind of a record.
-fn kind_of(event: &[u8]) -> u8
-    requires { 0 < length event.now }
-    ensures { result ≡ get_or event.now 0 0 }
-{
-    event[0]
 }
 
 // Has the component judge a record, and writes its line, for which there is room.
@@ -69,12 +63,10 @@ fn play_record(
     let answer = stepped.answer;
     let number_returned = returned(answer);
     let count = written(answer);
-    let kind = kind_of(event);
-    let n = log_text::record_line(number, kind, number_returned, &reply[..count], out).unwrap();
-    let after = stepped.board;
+    let n = log_text::record_line(number, event[0], number_returned, &reply[..count], out).unwrap();
     PlayedRecord {
-        board: after,
-        returned: number_returned,
+        board: stepped.board,
+        answer,
         written: n,
     }
 }
@@ -97,20 +89,22 @@ fn front_length(piece: &[u8], is_last: bool) -> Option<usize>
 }
 
 // A record that is cut, and one of a kind that is not listed, stop the reading.
-fn stops(returned: u8) -> bool
-    ensures { result ≡ stops_reading returned }
+fn stops(answer: Result<usize, Refusal>) -> bool
+    ensures { result ≡ stops_reading (answer_number answer) }
 {
-    (returned == 3) | (returned == 4)
+    matches!(answer, Err(Refusal::WrongLength | Refusal::UnknownKind))
 }
 
 // Plays the records of a piece. A number that 64 bits do not hold is not given: the reading ends at the one before.
+// `is_last` stays beside the piece: the caller alone knows whether the log has ended.
 pub fn play(start: Board, before: u64, piece: &[u8], is_last: bool, out: &mut [u8]) -> Played
     ensures { Plays start before piece.now is_last out.old out.new result }
 {
     play_tested(start, sound(start), before, piece, is_last, out)
 }
 
-// The board is tested once: a step keeps soundness.
+// The board is tested once, and the flag stands beside it: a step keeps soundness, and a caller tells what it knows.
+// The loop goes by places: a record's length says where the next one begins, and the place is part of what it returns.
 fn play_tested(
     start: Board,
     is_sound: bool,
@@ -160,7 +154,7 @@ fn play_tested(
         so_far.read += taken;
         so_far.written += played.written;
         // Nothing behind it is read.
-        if stops(played.returned) {
+        if stops(played.answer) {
             return Played {
                 pause: Pause::End,
                 ..so_far

@@ -2,15 +2,12 @@
 ghost use Rattle.std.specs.Prelude.{◌≡◌};
 ghost use Rattle.ect.specs.Contract.{answer_number, answer_count};
 
-use events::{Refusal, refusal_number};
+use events::Refusal;
 
 pub fn returned(answer: Result<usize, Refusal>) -> u8
     ensures { result ≡ answer_number answer }
 {
-    match answer {
-        Ok(_) => 0,
-        Err(refusal) => refusal_number(refusal),
-    }
+    answer.map_or_else(u8::from, |_| 0)
 }
 
 pub fn written(answer: Result<usize, Refusal>) -> usize

@@ -7,10 +7,7 @@ use Rattle.elements.specs.Elements.{first_element, siblings, whole_elements}
 use Rattle.component.specs.Arguments.{behind_operation, identified_in, arguments_in}
 use Rattle.private_transfers.specs.declared.Indication.{Indication}
 use Rattle.private_transfers.specs.declared.Indication.TheVariants.{Alerting, Active}
-use Rattle.private_transfers.specs.declared.RedirectionNumber.{RedirectionNumber}
-use Rattle.private_transfers.specs.declared.RedirectionNumber.TheVariants.{NotSent, Restricted, Given}
-use Rattle.private_transfers.specs.declared.EctInform.{EctInform}
-use Rattle.private_transfers.specs.EctInform.{inform_in}
+use Rattle.private_transfers.specs.EctInform.{Number, NotSent, Restricted, Given, Inform, inform_in}
 
 -- an invoke of this length, with identifier 5 and the object identifier that ends in `last`
 invoke : ℕ → ℕ → List ℕ → List ℕ
@@ -20,15 +17,15 @@ invoke n last argument = 0xA1 ∷ n ∷ 0x02 ∷ 0x01 ∷ 0x05 ∷ 0x06 ∷ 0x06
 fifteen : List ℕ → List ℕ
 fifteen s = 0x31 ∷ 0x32 ∷ 0x33 ∷ 0x34 ∷ 0x35 ∷ 0x36 ∷ 0x37 ∷ 0x38 ∷ 0x39 ∷ 0x30 ∷ 0x31 ∷ 0x32 ∷ 0x33 ∷ 0x34 ∷ 0x35 ∷ s
 
-abbrev says : Indication → RedirectionNumber → Option EctInform
+abbrev says : Indication → Number → Option Inform
 says i n = Some (record { indication = i; number = n })
 
 -- the digits 21
-abbrev twenty_one : RedirectionNumber
-twenty_one = Given 2 (50 ∷ 49 ∷ 0 ∷ 0 ∷ 0 ∷ 0 ∷ 0 ∷ 0 ∷ 0 ∷ 0 ∷ 0 ∷ 0 ∷ 0 ∷ 0 ∷ 0 ∷ [])
+abbrev twenty_one : Number
+twenty_one = Given (0x32 ∷ 0x31 ∷ [])
 
-abbrev fifteen_digits : RedirectionNumber
-fifteen_digits = Given 15 (49 ∷ 50 ∷ 51 ∷ 52 ∷ 53 ∷ 54 ∷ 55 ∷ 56 ∷ 57 ∷ 48 ∷ 49 ∷ 50 ∷ 51 ∷ 52 ∷ 53 ∷ [])
+abbrev fifteen_digits : Number
+fifteen_digits = Given (49 ∷ 50 ∷ 51 ∷ 52 ∷ 53 ∷ 54 ∷ 55 ∷ 56 ∷ 57 ∷ 48 ∷ 49 ∷ 50 ∷ 51 ∷ 52 ∷ 53 ∷ [])
 
 -- ---- accepted
 active_with_digits : inform_in (invoke 0x16 0x05 (0x30 ∷ 0x09 ∷ 0x0A ∷ 0x01 ∷ 0x01 ∷ 0xA0 ∷ 0x04 ∷ 0x80 ∷ 0x02 ∷ 0x32 ∷ 0x31 ∷ [])) ≡ says Active twenty_one

@@ -1,41 +1,51 @@
--- A redirection number that is given has 15 octets of digits. Assumes nothing.
+-- A redirection number that is given has 1 to 15 digits. Assumes nothing.
 use Prim.{tt}
 use Rattle.std.specs.Prelude.{None, Option, Some, IfSome, ⊤}
-use Prim.Native.Nat.{ℕ}
-use mathlib.Core.Path.{◌≡◌}
+use Prim.Native.Nat.{ℕ, ◌≤◌}
+use mathlib.Core.Path.{◌≡◌, refl}
 use mathlib.Core.Bool.{Bool, true, false, ◌&&◌, cond}
 use mathlib.Core.List.{List, [], ◌∷◌}
-use lib.Dec.{eqb}
+use lib.Dec.{eqb, leb}
 use lib.ListN.{length}
-use Rattle.digits.proofs.DigitLaws.{fifteen_long}
+use borrow.Author.Tests.{leb-true}
+use Rattle.octets.specs.Lists.{all}
+use Rattle.digits.specs.Digits.{is_digit}
 use Rattle.elements.specs.Elements.{Element, Bad, Whole, first_element, no_octets}
 use Rattle.component.specs.Arguments.{arguments_in}
 use Rattle.private_transfers.specs.declared.Indication.{Indication}
-use Rattle.private_transfers.specs.declared.RedirectionNumber.{RedirectionNumber}
-use Rattle.private_transfers.specs.declared.RedirectionNumber.TheVariants.{NotSent, Restricted, Given}
-use Rattle.private_transfers.specs.declared.EctInform.{EctInform}
-use Rattle.private_transfers.specs.EctInform.{are_digits, digits_in, number_element, number_in, indicated, inform_of, inform_by, inform_held, inform_argument, inform_behind, inform_in}
+use Rattle.private_transfers.specs.EctInform.{Number, NotSent, Restricted, Given, Inform, are_digits, digits_in, number_element, number_in, indicated, inform_of, inform_by, inform_held, inform_argument, inform_behind, inform_in}
 
--- a number's digits, where it is given
-abbrev pub IsLong : RedirectionNumber → Type 0
+-- a number's digits, where it is given: so many, and each a digit
+abbrev pub IsLong : Number → Type 0
 IsLong NotSent = ⊤
 IsLong Restricted = ⊤
-IsLong (Given n ds) = length ds ≡ 15
+IsLong (Given ds) = (1 ≤ length ds) × (length ds ≤ 15) × (all is_digit ds ≡ true)
 
-either_number : (b : Bool) (x y : Option RedirectionNumber) → IfSome x IsLong → IfSome y IsLong → IfSome (cond b x y) IsLong
+either_number : (b : Bool) (x y : Option Number) → IfSome x IsLong → IfSome y IsLong → IfSome (cond b x y) IsLong
 either_number true x y p q = p
 either_number false x y p q = q
 
-abbrev Long : Option EctInform → Type 0
-Long o = IfSome o (λ (i : EctInform). IsLong i.number)
+abbrev Long : Option Inform → Type 0
+Long o = IfSome o (λ (i : Inform). IsLong i.number)
 
-either : (b : Bool) (x y : Option EctInform) → Long x → Long y → Long (cond b x y)
+either : (b : Bool) (x y : Option Inform) → Long x → Long y → Long (cond b x y)
 either true x y p q = p
 either false x y p q = q
 
 digits_long : (e : Element) → IfSome (digits_in e) IsLong
 digits_long Bad = tt
-digits_long (Whole tag contents rest) = either_number (eqb tag 0x80 && (are_digits contents && no_octets rest)) _ _ (fifteen_long contents) tt
+digits_long (Whole tag contents rest) = tagged (eqb tag 0x80)
+  where
+    many : (a b d f : Bool) → leb 1 (length contents) ≡ a → leb (length contents) 15 ≡ b → all is_digit contents ≡ d → IfSome (cond (((a && b) && d) && f) (Some (Given contents)) None) IsLong
+    many true true true true p q r = (leb-true 1 (length contents) p, leb-true (length contents) 15 q, r)
+    many true true true false p q r = tt
+    many true true false f p q r = tt
+    many true false d f p q r = tt
+    many false b d f p q r = tt
+
+    tagged : (b : Bool) → IfSome (cond (b && (are_digits contents && no_octets rest)) (Some (Given contents)) None) IsLong
+    tagged true = many (leb 1 (length contents)) (leb (length contents) 15) (all is_digit contents) (no_octets rest) refl refl refl
+    tagged false = tt
 
 element_long : (e : Element) → IfSome (number_element e) IsLong
 element_long Bad = tt
@@ -49,7 +59,7 @@ number_in_long : (s : List ℕ) → IfSome (number_in s) IsLong
 number_in_long [] = tt
 number_in_long (x ∷ s) = element_long (first_element (x ∷ s))
 
-of_long : (i : Option Indication) (o : Option RedirectionNumber) → IfSome o IsLong → Long (inform_of i o)
+of_long : (i : Option Indication) (o : Option Number) → IfSome o IsLong → Long (inform_of i o)
 of_long None o h = tt
 of_long (Some i) None h = tt
 of_long (Some i) (Some n) h = h
@@ -71,6 +81,6 @@ behind_long : (o : Option (List ℕ)) → Long (inform_behind o)
 behind_long None = tt
 behind_long (Some rest) = argument_long (first_element rest)
 
-pub number_long : (c : List ℕ) → IfSome (inform_in c) (λ (i : EctInform). IsLong i.number)
+pub number_long : (c : List ℕ) → IfSome (inform_in c) (λ (i : Inform). IsLong i.number)
 unfolding inform_in
 number_long c = behind_long (arguments_in 0x05 c)

@@ -1,2 +1,3 @@
 -- Transfers made inside a private exchange.
 pub mod EctInform
+pub mod Code

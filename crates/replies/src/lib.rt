@@ -28,7 +28,7 @@ enum Description {
     TransferredActive = 0xea,
 }
 
-// The octets of an event's replies.
+// The octets of an event's replies, at most 128: the buffer that the rules ask for.
 #[derive(Drop)]
 pub struct Out {
     pub octets: ArrayVec<u8, 128>,
@@ -54,7 +54,7 @@ fn mark_only(mark: u8) -> TellNumber
 }
 
 // A number that is unknown, or not sent.
-fn unknown() -> TellNumber
+pub fn unknown() -> TellNumber
     ensures { result ≡ mark_only 0 }
 {
     mark_only(0)
@@ -70,6 +70,7 @@ pub fn number_as_told(number: PartyNumber) -> TellNumber
     if number.presentation == 1 {
         return mark_only(2);
     }
+    // A variable: an array field is not borrow checked where it goes into a literal straight.
     let digits = number.digits;
     TellNumber {
         mark: 1,
@@ -84,12 +85,14 @@ fn joined<const N: usize>(head: &[u8], rest: &[u8]) -> [u8; N]
     ensures { result ≡ head.now ++ rest.now }
 {
     let mut octets = [0u8; N];
+    // A slice: a part of an array of N octets is not borrow checked where it is lent straight.
     let all = &mut octets[..];
     all[..head.len()].copy_from_slice(head);
     all[head.len()..].copy_from_slice(rest);
     octets
 }
 
+#[tactic(auto, unfolding(component::specs::Answers::encoded))]
 fn reply_record(reference: CallReference, answer: Answer) -> [u8; 36]
     ensures { result ≡ record_octets (Reply reference.0 answer) }
 {
@@ -131,7 +134,7 @@ fn tell_record(
         message as u8,
         description as u8,
         number.mark,
-        request as u8,
+        u8::from(request),
         number.count,
     ];
     joined(&head, &number.digits)
@@ -158,6 +161,7 @@ fn told_record(leg: u32, alerts: bool, other: bool, number: TellNumber) -> [u8; 
 }
 
 impl Out {
+    // Without octets: each reply begins with it, and `nothing` is the same where there is no record.
     fn new() -> Out
         ensures { result.octets.items ≡ [] }
     {
@@ -167,18 +171,18 @@ impl Out {
     }
 
     // With one record more.
-    fn with(self, octets: &[u8]) -> Out
+    fn with(mut self, octets: &[u8]) -> Out
         requires { length self.octets.items + length octets.now ≤ 128 }
         ensures items { result.octets.items ≡ self.octets.items ++ octets.now }
         ensures len { length result.octets.items ≡ length self.octets.items + length octets.now }
     {
-        let mut out = self;
-        out.octets.try_extend_from_slice(octets).unwrap();
-        out
+        self.octets.try_extend_from_slice(octets).unwrap();
+        self
     }
 }
 
 // No record.
+#[tactic(auto, unfolding(crate::specs::Code::Writing::rendered, rules::specs::Replies::octets))]
 pub fn nothing() -> Out
     ensures { result ≡ rendered [] }
 {
@@ -186,6 +190,7 @@ pub fn nothing() -> Out
 }
 
 // The answer to a component.
+#[tactic(auto, unfolding(crate::specs::Code::Writing::rendered, rules::specs::Replies::octets))]
 pub fn reply(reference: CallReference, answer: Answer) -> Out
     ensures { result ≡ rendered (Reply reference.0 answer ∷ []) }
 {
@@ -193,6 +198,7 @@ pub fn reply(reference: CallReference, answer: Answer) -> Out
 }
 
 // The release of a served call.
+#[tactic(auto, unfolding(crate::specs::Code::Writing::rendered, rules::specs::Replies::octets))]
 pub fn drop_notice(reference: CallReference) -> Out
     ensures { result ≡ rendered (Drop reference.0 ∷ []) }
 {
@@ -200,6 +206,7 @@ pub fn drop_notice(reference: CallReference) -> Out
 }
 
 // The release of a joined leg, told to its partner.
+#[tactic(auto, unfolding(crate::specs::Code::Writing::rendered, rules::specs::Replies::octets))]
 pub fn gone(leg: u32) -> Out
     ensures { result ≡ rendered (Gone leg ∷ []) }
 {
@@ -207,6 +214,7 @@ pub fn gone(leg: u32) -> Out
 }
 
 // What an answer tells the partner.
+#[tactic(auto, unfolding(crate::specs::Code::Writing::rendered, rules::specs::Replies::octets))]
 pub fn answer_told(partner: u32, number: TellNumber) -> Out
     ensures { result ≡ rendered (Tell partner facility transferred_active number 0 ∷ []) }
 {
@@ -214,6 +222,7 @@ pub fn answer_told(partner: u32, number: TellNumber) -> Out
 }
 
 // A component of a joined leg, passed on to its partner.
+#[tactic(auto, unfolding(crate::specs::Code::Writing::rendered, rules::specs::Replies::octets))]
 pub fn pass_on(partner: u32, count: u8, component: [u8; 64]) -> Out
     ensures { result ≡ rendered (PassOn partner count component ∷ []) }
 {
@@ -221,6 +230,7 @@ pub fn pass_on(partner: u32, count: u8, component: [u8; 64]) -> Out
 }
 
 // The five records of a transfer, the Reply on the reference of the event.
+#[tactic(auto, unfolding(crate::specs::Code::Writing::rendered, rules::specs::Replies::octets))]
 pub fn transfer(
     reference: CallReference,
     identifier: IntegerOctets,

@@ -4,23 +4,24 @@
 ghost use Rattle.std.specs.Prelude.{◌≡◌, eqb, ◌||◌};
 ghost use Rattle.board.specs.States.{delivered};
 ghost use Rattle.board.specs.Changes.{map_standing, joined, alerting_ended, emptied_if, row_after};
-ghost use Rattle.board.specs.Changes.{changed_rows, enter, with_rows};
-ghost use Rattle.row_changes.specs.Code.Calls.{ChangesCall};
+ghost use Rattle.board.specs.Changes.{changed_rows, enter};
+ghost use Rattle.row_changes.specs.Code.Calls.{CallGiven, OtherKept};
 
 use board::finding::{Key, find};
-use board::{Board, Call, CallState, Change, Row, Standing, empty_row};
+use board::{Call, CallState, Change, Row, Standing, empty_row};
 use octets::CallReference;
 
 // The call of that reference, changed.
 fn on_call<F: FnOnce(Call) -> Call>(row: &mut Row, reference: CallReference, change: F)
     requires { F.IsAlwaysCallable change }
-    ensures { ChangesCall (F.post change) reference row.old row.new }
+    ensures call { CallGiven (F.post change) reference row.old row.new }
+    ensures other { OtherKept reference row.old row.new }
 {
-    match row.standing {
-        Standing::Served(call) if reference.0 == call.reference.0 => {
-            row.standing = Standing::Served(change(call));
-        }
-        _ => {}
+    let Standing::Served(call) = row.standing else {
+        return;
+    };
+    if reference == call.reference {
+        row.standing = Standing::Served(change(call));
     }
 }
 
@@ -54,7 +55,7 @@ fn end_alerting(row: &mut Row, leg: u32)
     if let Standing::Joined { partner, alerting } = row.standing {
         row.standing = Standing::Joined {
             partner,
-            alerting: alerting & (leg != row.leg),
+            alerting: alerting && leg != row.leg,
         };
     }
 }
@@ -68,7 +69,6 @@ fn empty_if(row: &mut Row, released: bool)
 }
 
 // Rows change in place: most stay as they are, and an event that makes each anew takes half as long again.
-// A match over the closed set of changes: they are data, and the definitions match on them too.
 #[tactic(auto, unfolding(board::specs::Changes::row_after))]
 fn apply(row: &mut Row, change: Change)
     ensures { row.new ≡ row_after change row.old }
@@ -93,32 +93,25 @@ fn apply(row: &mut Row, change: Change)
         Change::Join(a, b) => join(row, a, b),
         Change::EndAlerting(leg) => end_alerting(row, leg),
         Change::Release(leg) => empty_if(row, row.leg == leg),
-        Change::ReleasePair(leg, partner) => {
-            empty_if(row, (row.leg == leg) | (row.leg == partner))
-        }
+        Change::ReleasePair(leg, partner) => empty_if(row, row.leg == leg || row.leg == partner),
     }
 }
 
-// The board after a change to rows that are taken.
-#[tactic(auto, unfolding(board::specs::Changes::changed_rows))]
-pub fn change(board: Board, change: Change) -> Board
-    ensures { result ≡ with_rows (changed_rows change board.rows) board }
+// Changes rows that are taken.
+#[tactic(auto, using(octets::proofs::Places::changed_step), unfolding(board::specs::Changes::changed_rows))]
+pub fn change(rows: &mut [Row], change: Change)
+    ensures { rows.new ≡ changed_rows change rows.old }
 {
-    let mut rows = board.rows;
     for row in rows.iter_mut() {
         apply(row, change);
     }
-    Board { rows, ..board }
 }
 
-// The row goes into the lowest empty place; a full board stays as it is.
-pub fn open_row(board: Board, row: Row) -> Board
-    ensures { result ≡ with_rows (enter row board.rows) board }
+// The row goes into the lowest empty place; full rows stay as they are.
+pub fn open_row(rows: &mut [Row], row: Row)
+    ensures { rows.new ≡ enter row rows.old }
 {
-    let Some(i) = find(board, Key::Empty) else {
-        return board;
-    };
-    let mut rows = board.rows;
-    rows[i] = row;
-    Board { rows, ..board }
+    if let Some(i) = find(rows, Key::Empty) {
+        rows[i] = row;
+    }
 }

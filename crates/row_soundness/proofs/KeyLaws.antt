@@ -4,36 +4,44 @@ use Rattle.std.specs.Ordering.{int_eq}
 use Rattle.std.proofs.lemmas.Bool.Decides.{Decides-int_eq}
 use mathlib.Core.Path.{◌≡◌, refl, sym, ap, ap₂, ◌∙◌}
 use mathlib.Core.Bool.{and-false, or_assoc}
+use Rattle.octets.specs.declared.LinkId.{LinkId}
 use Rattle.octets.specs.Numbers.{same_integer}
 use Rattle.octets.specs.Tests.{none_or, has, has_both}
 use Rattle.octets.proofs.Lists.{same_tests}
 use Rattle.octets.proofs.SameInteger.{same_integer_eq, same_integer_self}
 use Rattle.board.specs.declared.Standing.{Standing}
 use Rattle.board.specs.declared.Standing.TheVariants.{Empty, Served, Joined}
+use Rattle.board.specs.declared.Connection.{Connection}
+use Rattle.board.specs.declared.Connection.TheVariants.{WithUser, WithPartner}
 use Rattle.board.specs.declared.Entry.{Entry}
 use Rattle.board.specs.declared.Row.{Row}
-use Rattle.board.specs.Entries.{entry_of, row_entry}
+use Rattle.board.specs.Entries.{entry_of, row_entry, reference_of, link_id_in, link_id_of}
 use Rattle.board.specs.Soundness.{same_numbers, same_link_ids_in}
 use Rattle.board.specs.Code.RowTests.{clashing, clash, partnered_by, paired}
 use Rattle.octets.specs.Tests.{bind_option}
 use Rattle.row_soundness.specs.declared.keys.JoinedLeg.{JoinedLeg}
-use Rattle.row_soundness.specs.Code.RowKeys.{leg_in, reference_in, link_in, joined_in, in_row, answers_joined}
+use Rattle.row_soundness.specs.Code.RowKeys.{leg_in, call_reference_of, reference_in, call_link_of, link_in, same_reference, same_link, joined_in, in_row, answers_joined}
 
 -- ---- what is there in both, and the same
 
-pub both_numbers : (o p : Option ℕ) → has_both eqb o p ≡ same_numbers o p
-both_numbers None p = refl
-both_numbers (Some m) None = refl
-both_numbers (Some m) (Some n) = refl
+pub both_references : (j k : Connection) → has_both same_reference (call_reference_of j) (call_reference_of k) ≡ same_numbers (reference_of j) (reference_of k)
+both_references (WithUser c) (WithUser d) = refl
+both_references (WithUser c) (WithPartner p a) = refl
+both_references (WithPartner p a) k = refl
 
 int_eq_same : (y z : ℤ) → int_eq y z ≡ same_integer y z
 int_eq_same y z =
     same_tests (λ t. ap (same_integer y) (sym ((Decides-int_eq y z).0 t)) ∙ same_integer_self y) (λ t. (Decides-int_eq y z).1 (same_integer_eq y z t))
 
-pub both_links : (o p : Option ℤ) → has_both int_eq o p ≡ same_link_ids_in o p
-both_links None p = refl
-both_links (Some y) None = refl
-both_links (Some y) (Some z) = int_eq_same y z
+both_link_ids : (o p : Option LinkId) → has_both same_link o p ≡ same_link_ids_in (link_id_in o) (link_id_in p)
+both_link_ids None p = refl
+both_link_ids (Some k) None = refl
+both_link_ids (Some k) (Some l) = int_eq_same k.0 l.0
+
+pub both_links : (j k : Connection) → has_both same_link (call_link_of j) (call_link_of k) ≡ same_link_ids_in (link_id_of j) (link_id_of k)
+both_links (WithUser c) (WithUser d) = both_link_ids c.link d.link
+both_links (WithUser c) (WithPartner p a) = both_link_ids c.link None
+both_links (WithPartner p a) k = refl
 
 -- ---- two rows that clash
 
@@ -44,15 +52,15 @@ none_right : {A : Type 0} (t : A → A → Bool) (o : Option A) → has_both t o
 none_right t None = refl
 none_right t (Some x) = refl
 
-clash_of : (o p : Option Entry) → (same_in eqb leg_in o p || same_in eqb reference_in o p || same_in int_eq link_in o p) ≡ has_both clashing o p
+clash_of : (o p : Option Entry) → (same_in eqb leg_in o p || same_in same_reference reference_in o p || same_in same_link link_in o p) ≡ has_both clashing o p
 clash_of None p = refl
-clash_of (Some e) None = rw (none_right eqb (reference_in e), none_right int_eq (link_in e))
+clash_of (Some e) None = rw (none_right same_reference (reference_in e), none_right same_link (link_in e))
 clash_of (Some e) (Some f) =
     or_assoc (eqb e.leg f.leg) _ _
-    ∙ ap₂ (λ (b c : Bool). eqb e.leg f.leg || (b || c)) (both_numbers (reference_in e) (reference_in f)) (both_links (link_in e) (link_in f))
+    ∙ ap₂ (λ (b c : Bool). eqb e.leg f.leg || (b || c)) (both_references e.connection f.connection) (both_links e.connection f.connection)
 
 pub clash_by_keys : (a b : Row) →
-    (has_both eqb (in_row leg_in a) (in_row leg_in b) || has_both eqb (in_row reference_in a) (in_row reference_in b) || has_both int_eq (in_row link_in a) (in_row link_in b)) ≡ clash a b
+    (has_both eqb (in_row leg_in a) (in_row leg_in b) || has_both same_reference (in_row reference_in a) (in_row reference_in b) || has_both same_link (in_row link_in a) (in_row link_in b)) ≡ clash a b
 unfolding clash
 clash_by_keys a b = clash_of (row_entry a) (row_entry b)
 

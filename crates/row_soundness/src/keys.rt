@@ -6,6 +6,7 @@ ghost use Rattle.row_soundness.specs.Code.RowKeys.{leg_in, reference_in, link_in
 
 use board::finding::is_occupied;
 use board::{Row, Standing};
+use octets::{CallReference, LinkId};
 
 // A joined leg, its partner, and whether it alerts.
 #[derive(Clone, Copy, Default)]
@@ -21,20 +22,20 @@ pub fn leg(row: Row) -> Option<u32>
     is_occupied(row.standing).then_some(row.leg)
 }
 
-pub fn reference(row: Row) -> Option<u16>
+pub fn reference(row: Row) -> Option<CallReference>
     ensures { result ≡ in_row reference_in row }
 {
     match row.standing {
-        Standing::Served(call) => Some(call.reference.0),
+        Standing::Served(call) => Some(call.reference),
         _ => None,
     }
 }
 
-pub fn link(row: Row) -> Option<i16>
+pub fn link(row: Row) -> Option<LinkId>
     ensures { result ≡ in_row link_in row }
 {
     match row.standing {
-        Standing::Served(call) => call.link.map(|link| link.0),
+        Standing::Served(call) => call.link,
         _ => None,
     }
 }
@@ -53,6 +54,7 @@ pub fn joined_leg(row: Row) -> Option<JoinedLeg>
 }
 
 // Whether `b` is the partner of `a` and is joined back to it, not both alerting.
+// Tests all without a branch, as it runs for each pair of rows.
 pub fn answers(a: JoinedLeg, b: JoinedLeg) -> bool
     ensures { result ≡ answers_joined a b }
 {

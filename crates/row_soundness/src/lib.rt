@@ -4,13 +4,14 @@
 ghost use Rattle.std.specs.Prelude.{◌≡◌};
 ghost use Rattle.octets.specs.Tests.{has_both};
 ghost use Rattle.board.specs.States.{valid_direction, holdable, valid_call};
-ghost use Rattle.board.specs.Soundness.{valid_number, valid_standing};
-ghost use Rattle.board.specs.Code.RowTests.{fits, clash, paired, taken_row};
+ghost use Rattle.board.specs.Soundness.{valid_standing};
+ghost use Rattle.board.specs.Code.RowTests.{fits, clash, paired};
 ghost use Rattle.board.specs.Code.Tallies.{row_tally};
 
 use board::finding::is_occupied;
 use board::{
-    AuxiliaryState, Call, CallState, Direction, PartyNumber, Row, Standing, Tally, valid_digits,
+    AuxiliaryState, Call, CallState, Direction, Row, Standing, Tally, valid_digits, valid_number,
+    valid_reference,
 };
 use keys::{answers, joined_leg, leg, link, reference};
 
@@ -35,7 +36,7 @@ pub fn is_holdable(state: CallState) -> bool
 fn call_valid(call: Call) -> bool
     ensures { result ≡ valid_call call }
 {
-    call.reference.0 % 32768 != 0
+    valid_reference(call.reference)
         && direction_valid(call.state, call.direction)
         && (call.auxiliary == AuxiliaryState::Idle || is_holdable(call.state))
 }
@@ -47,18 +48,6 @@ fn empty_fits(row: Row) -> bool
     row.leg == 0 && number.presentation == 0 && number.count == 0 && valid_digits(0, &number.digits)
 }
 
-fn number_fits(number: PartyNumber) -> bool
-    ensures { result ≡ valid_number number }
-{
-    number.presentation <= 1 && valid_digits(number.count, &number.digits)
-}
-
-pub fn is_taken(row: Row) -> bool
-    ensures { result ≡ taken_row row }
-{
-    is_occupied(row.standing)
-}
-
 // The fields of one row obey their rules.
 #[tactic(auto, unfolding(board::specs::Code::RowTests::fits, board::specs::Soundness::valid_row))]
 pub fn row_fits(row: Row) -> bool
@@ -66,8 +55,8 @@ pub fn row_fits(row: Row) -> bool
 {
     match row.standing {
         Standing::Empty => empty_fits(row),
-        Standing::Served(call) => call_valid(call) && number_fits(row.number),
-        Standing::Joined { .. } => number_fits(row.number),
+        Standing::Served(call) => call_valid(call) && valid_number(row.number),
+        Standing::Joined { .. } => valid_number(row.number),
     }
 }
 
@@ -81,6 +70,7 @@ fn both_same<T: Copy + PartialEq>(x: Option<T>, y: Option<T>) -> bool
 }
 
 // Two rows share a leg, a reference or a LinkId.
+// Tests all three without a branch, as it runs for each pair of rows.
 pub fn rows_clash(a: Row, b: Row) -> bool
     ensures { result ≡ clash a b }
 {
@@ -88,6 +78,7 @@ pub fn rows_clash(a: Row, b: Row) -> bool
 }
 
 // Whether `b` is the partner of `a`, or `a` needs none.
+#[tactic(auto, using(crate::proofs::KeyLaws::paired_by_legs))]
 pub fn rows_paired(a: Row, b: Row) -> bool
     ensures { result ≡ paired a b }
 {
@@ -103,7 +94,7 @@ pub fn row_tally(row: Row) -> Tally
     ensures { result ≡ row_tally row }
 {
     Tally {
-        legs: usize::from(is_taken(row)),
+        legs: usize::from(is_occupied(row.standing)),
         joined: usize::from(joined_leg(row).is_some()),
         links: usize::from(link(row).is_some()),
     }

@@ -10,21 +10,21 @@ ghost use Rattle.board.specs.Counts.{counted_answer, counts};
 ghost use Rattle.board.specs.Soundness.{sound_rows};
 ghost use Rattle.board.specs.Code.RowTests.{fits, clash, paired};
 
-use board::finding::is_call_of;
+use board::finding::{Key, find};
 use board::{Counts, MOST_LINK_IDS, Row, Unsound};
 use octets::CallReference;
 use row_soundness::{row_fits, rows_clash, rows_paired};
 use soundness::tally;
 
-// The lowest place, counted from 0, with a call of that reference.
+// The lowest place, counted from 0, with a call of that reference. `board::finding::lookup` is the same of a board.
+#[tactic(auto, using(board::proofs::Answers::place_answer), unfolding(board::specs::Lookup::lookup))]
 pub fn lookup(rows: &[Row], reference: CallReference) -> Option<usize>
     ensures { found_answer result ≡ lookup_rows reference.0 rows.now }
 {
-    rows.iter()
-        .position(|row| is_call_of(row.standing, reference))
+    find(rows, Key::Reference(reference))
 }
 
-// The same of 64 rows by value.
+// The same of 64 rows by value: the rules name both forms.
 pub fn lookup_in(rows: [Row; 64], reference: CallReference) -> Option<usize>
     ensures { found_answer result ≡ lookup_rows reference.0 rows }
 {
@@ -43,6 +43,7 @@ fn clashes(row: Row, later: &[Row]) -> bool
     later.iter().any(|other| rows_clash(row, *other))
 }
 
+// Beside `soundness::all_differ`: one function over a test would quantify over it in its contract, no plainer.
 fn none_clash(rows: &[Row]) -> bool
     ensures { result ≡ distinct clash rows.now }
 {
@@ -76,6 +77,7 @@ fn few_link_ids(rows: &[Row]) -> bool
     tally(rows).links <= MOST_LINK_IDS
 }
 
+// Rows are held against each other: lent rows may be any number, so no columns of fixed room hold their keys.
 #[tactic(auto, using(board::proofs::Rows::sound_by_rows))]
 fn sound(rows: &[Row]) -> bool
     ensures { result ≡ sound_rows rows.now }
@@ -84,21 +86,17 @@ fn sound(rows: &[Row]) -> bool
 }
 
 // The counts of the rows, once they are found sound.
+#[tactic(auto, unfolding(board::specs::Counts::counts, board::specs::Code::Tallies::tally_of))]
 pub fn count(rows: &[Row]) -> Result<Counts, Unsound>
     ensures { counted_answer result ≡ counts rows.now }
 {
     if !sound(rows) {
         return Err(Unsound);
     }
-    let tally = tally(rows);
-    Ok(Counts {
-        legs: tally.legs,
-        pairs: tally.joined / 2,
-        links: tally.links,
-    })
+    Ok(tally(rows).into())
 }
 
-// The same of 64 rows by value.
+// The same of 64 rows by value: the rules name both forms.
 pub fn count_in(rows: [Row; 64]) -> Result<Counts, Unsound>
     ensures { counted_answer result ≡ counts rows }
 {

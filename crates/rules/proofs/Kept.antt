@@ -1,4 +1,5 @@
 -- Sound entries stay sound, whatever is decided of them.
+use Rattle.std.proofs.Math.Bool.{and_comm}
 use Rattle.std.specs.Prelude.{None, Option, Some}
 use Prim.Native.Nat.{◌+◌, ◌<◌, ◌≤◌, ℕ, zero, suc}
 use native.Mathlib.Nat.{le_trans}
@@ -500,12 +501,6 @@ module _ (es : List Entry) (s : Sound es) (p q : Party) (mp : Memᴰ p (calls es
 
   at_q : Memᴰ (entry q.leg (WithPartner p.leg (delivered q.call))) (map tied es)
   at_q = subst (λ (e : Entry). Memᴰ e (map tied es)) (entry_path refl (ap₂ (λ (a b : Bool). cond a (WithPartner q.leg (delivered q.call)) (cond b (WithPartner p.leg (delivered q.call)) (WithUser q.call))) apart (eqb_self q.leg))) (mem_map tied (party_mem es mq))
-
-  and_comm : (a b : Bool) → (a && b) ≡ (b && a)
-  and_comm true true = refl
-  and_comm true false = refl
-  and_comm false true = refl
-  and_comm false false = refl
 
   transfers_sound : Sound (map tied es)
   transfers_sound = record {

@@ -6,7 +6,7 @@ use board::Party;
 use component::Answer;
 use octets::{IntegerOctets, LinkId};
 
-// What a component comes to.
+// What a component comes to: a closed set of data, on which the definitions match too.
 #[derive(Clone, Copy)]
 pub enum Service {
     // Nothing is written.
@@ -24,7 +24,8 @@ pub enum Service {
 }
 
 // A number as it is told: its mark, and its digits only where the mark is 1.
-// The mark is an octet, since a caller may have any number told: kinds of marks would ask more of it.
+// The mark is an octet and the count stands beside 15 octets, as in the record: a caller may have any number told, and
+// kinds of marks or a bound on the count would ask more of it.
 #[derive(Clone, Copy)]
 pub struct TellNumber {
     pub mark: u8,

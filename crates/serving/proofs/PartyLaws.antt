@@ -1,17 +1,17 @@
 -- A party or an entry that the rules look up is that of the row found.
 use Rattle.std.specs.Prelude.{None, Option, Some}
+use Rattle.std.specs.Option.{option_and_then}
 use Prim.Native.Nat.{ℕ}
 use mathlib.Core.Path.{◌∙◌, refl, ap, sym, ◌≡◌}
-use mathlib.Core.Bool.{Bool}
 use mathlib.Core.List.{[], List}
-use Rattle.board.proofs.Searches.{element_at, find_at, entry_by_leg}
-use Rattle.board.specs.Entries.{calls, taken, row_entry, row_party}
+use Rattle.board.proofs.Searches.{element_at, find_at, entry_by_leg, party_by_reference, party_by_link_id}
+use Rattle.board.specs.Entries.{calls, taken, row_entry, row_party, has_party_link_id}
 use Rattle.board.specs.Code.Keys.{matches_key}
-use Rattle.board.specs.Lookup.{found_row}
-use Rattle.board.specs.declared.Party.{Party}
+use Rattle.octets.specs.declared.CallReference.{CallReference}
+use Rattle.octets.specs.declared.LinkId.{LinkId}
 use Rattle.board.specs.declared.Row.{Row}
 use Rattle.board.specs.declared.Standing.TheVariants.{Empty}
-use Rattle.rules.specs.Checks.{entry_at}
+use Rattle.rules.specs.Checks.{entry_at, named}
 use Rattle.octets.proofs.Places.{value_at}
 use Rattle.octets.specs.Lists.{find, place_from}
 use Rattle.board.specs.declared.finding.Key.{Key}
@@ -21,20 +21,31 @@ use Rattle.board.specs.declared.finding.Key.TheVariants as key
 abbrev pub no_row : Row
 no_row = record { leg = 0; number = record { presentation = 0; count = 0; digits = [] }; standing = Empty }
 
-module _ (q : Party → Bool) (k : Key) (rows : List Row) (law : find q (calls (taken rows)) ≡ value_at row_party no_row rows (place_from (matches_key k) 0 rows)) where
-  pub party_found_lem : {row : Row} → row ≡ found_row (find (matches_key k) rows) → row_party row ≡ find q (calls (taken rows))
-  party_found_lem e =
-      ap row_party (e ∙ ap found_row (find_at no_row (matches_key k) rows)) ∙ sym (law ∙ go (place_from (matches_key k) 0 rows))
-    where
-      go : (o : Option ℕ) → value_at row_party no_row rows o ≡ row_party (found_row (element_at no_row rows o))
-      go None = refl
-      go (Some i) = refl
-
-pub entry_found_lem : (n : ℕ) (rows : List Row) {row : Row} → row ≡ found_row (find (matches_key (key.Leg n)) rows) → row_entry row ≡ entry_at n (taken rows)
-entry_found_lem n rows e =
-    ap row_entry (e ∙ ap found_row (find_at no_row (matches_key (key.Leg n)) rows))
-    ∙ sym (entry_by_leg n rows no_row ∙ go (place_from (matches_key (key.Leg n)) 0 rows))
+-- what the rules look up is that of the row found
+found_lem : {A : Type 0} (f : Row → Option A) (k : Key) (rows : List Row) {o : Option A} {row : Option Row} → o ≡ value_at f no_row rows (place_from (matches_key k) 0 rows) →
+    find (matches_key k) rows ≡ row → option_and_then f row ≡ o
+found_lem f k rows law e = ap (option_and_then f) (sym e ∙ find_at no_row (matches_key k) rows) ∙ sym (law ∙ go (place_from (matches_key k) 0 rows))
   where
-    go : (o : Option ℕ) → value_at row_entry no_row rows o ≡ row_entry (found_row (element_at no_row rows o))
+    go : (i : Option ℕ) → value_at f no_row rows i ≡ option_and_then f (element_at no_row rows i)
     go None = refl
     go (Some i) = refl
+
+module _ (rows : List Row) {row : Row} where
+  pub named_found : (r : CallReference) → find (matches_key (key.Reference r)) rows ≡ Some row → row_party row ≡ named r.0 (taken rows)
+  named_found r e = found_lem row_party (key.Reference r) rows (party_by_reference r rows no_row) e
+
+  pub linked_found : (l : LinkId) → find (matches_key (key.LinkId l)) rows ≡ Some row → row_party row ≡ find (has_party_link_id l.0) (calls (taken rows))
+  linked_found l e = found_lem row_party (key.LinkId l) rows (party_by_link_id l rows no_row) e
+
+  pub entry_found : (n : ℕ) → find (matches_key (key.Leg n)) rows ≡ Some row → row_entry row ≡ entry_at n (taken rows)
+  entry_found n e = found_lem row_entry (key.Leg n) rows (entry_by_leg n rows no_row) e
+
+module _ (rows : List Row) where
+  pub named_nowhere : (r : CallReference) → find (matches_key (key.Reference r)) rows ≡ None → None ≡ named r.0 (taken rows)
+  named_nowhere r e = found_lem row_party (key.Reference r) rows (party_by_reference r rows no_row) e
+
+  pub linked_nowhere : (l : LinkId) → find (matches_key (key.LinkId l)) rows ≡ None → None ≡ find (has_party_link_id l.0) (calls (taken rows))
+  linked_nowhere l e = found_lem row_party (key.LinkId l) rows (party_by_link_id l rows no_row) e
+
+  pub entry_nowhere : (n : ℕ) → find (matches_key (key.Leg n)) rows ≡ None → None ≡ entry_at n (taken rows)
+  entry_nowhere n e = found_lem row_entry (key.Leg n) rows (entry_by_leg n rows no_row) e

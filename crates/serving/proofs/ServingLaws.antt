@@ -3,7 +3,7 @@ use Rattle.std.specs.Prelude.{None, Option, Some}
 use borrow.Author.Tests.{le-leb, lt-leb}
 use Prim.Native.Nat.{◌<◌, ◌≤◌, ℕ}
 use native.Mathlib.Omega.{arith}
-use mathlib.Core.Path.{◌∙◌, refl, ap, sym, ◌≡◌}
+use mathlib.Core.Path.{◌∙◌, ap, sym, ◌≡◌}
 use mathlib.Core.Bool.{Bool, cond}
 use mathlib.Core.List.{List}
 use lib.Dec.{leb}
@@ -37,16 +37,9 @@ module _ (rows : List Row) (z : ℤ) (i : IntegerOctets) {t : Tally} (tally : t 
     room =
         ap (λ (b : Bool). cond b (error i 11) (assign i (free_link_id most_link_ids z (live (calls (taken rows)))))) (ap (leb most_link_ids) (sym links_are) ∙ lt-leb most_link_ids t.links h)
 
-    absent_none : (o : Option ℤ) → optional_link_id o ≡ None → o ≡ None
-    absent_none None e = refl
-    absent_none (Some y) e = let z : ◌≡◌ {A = ℕ} 0 1 = cc in absurd (omega arith)
-
     given : (o : Option ℤ) {id : LinkId} → optional_link_id o ≡ Some id → assign i o ≡ AssignLinkId id i
     given None e = let z : ◌≡◌ {A = ℕ} 0 1 = cc in absurd (omega arith)
     given (Some y) {id} e = let d : record { 0 = y } ≡ id = cc in ap (λ (l : LinkId). AssignLinkId l i) d
 
-    pub new_none : optional_link_id (free_link_id most_link_ids z (live (calls (taken rows)))) ≡ None → New (error i 11)
-    new_none e = sym (room ∙ ap (assign i) (absent_none (free_link_id most_link_ids z (live (calls (taken rows)))) e))
-
-    pub new_some : {id : LinkId} → optional_link_id (free_link_id most_link_ids z (live (calls (taken rows)))) ≡ Some id → New (AssignLinkId id i)
-    new_some e = sym (room ∙ given (free_link_id most_link_ids z (live (calls (taken rows)))) e)
+    pub new_some : {id : LinkId} {o : Option LinkId} → o ≡ optional_link_id (free_link_id most_link_ids z (live (calls (taken rows)))) → o ≡ Some id → New (AssignLinkId id i)
+    new_some k e = sym (room ∙ given (free_link_id most_link_ids z (live (calls (taken rows)))) (sym k ∙ e))

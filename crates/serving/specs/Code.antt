@@ -1,3 +1,2 @@
 -- Definitions that describe the code, for its proofs: no rule of document 01 stands here.
 pub mod Parties
-pub mod Lookups

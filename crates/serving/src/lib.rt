@@ -16,10 +16,17 @@ use octets::{IntegerOctets, LinkId};
 use pairing::{is_partner, only_partner};
 use parties::linked;
 use rules::Service;
-use soundness::add_up;
+use soundness::tally;
 
 mod pairing;
 pub mod parties;
+
+// The general errors of ETS 300 196-1 that are answered.
+const NOT_SUBSCRIBED: u8 = 0;
+
+const INVALID_CALL_STATE: u8 = 7;
+
+const RESOURCE_UNAVAILABLE: u8 = 11;
 
 // A general error, by its number.
 fn failed(identifier: IntegerOctets, number: u8) -> Service
@@ -28,20 +35,21 @@ fn failed(identifier: IntegerOctets, number: u8) -> Service
     Service::Respond(Answer::Error(identifier, number))
 }
 
-fn assign_link_id(board: Board, identifier: IntegerOctets) -> Service
-    ensures { result ≡ new_link_id (length (live (parties_of board))) identifier (free_in board) }
+#[tactic(auto, using(crate::proofs::ServingLaws::new_full))]
+fn assign_link_id(board: &Board, identifier: IntegerOctets) -> Service
+    ensures { result ≡ new_link_id (length (live (parties_of board.now))) identifier (free_in board.now) }
 {
-    if MOST_LINK_IDS <= add_up(board.rows).links {
-        return failed(identifier, 11);
+    if MOST_LINK_IDS <= tally(&board.rows).links {
+        return failed(identifier, RESOURCE_UNAVAILABLE);
     }
-    match free_link_id(board) {
-        None => failed(identifier, 11),
+    match free_link_id(*board) {
+        None => failed(identifier, RESOURCE_UNAVAILABLE),
         Some(id) => Service::AssignLinkId(id, identifier),
     }
 }
 
-fn request_link_id(board: Board, named: Party, identifier: IntegerOctets) -> Service
-    ensures { result ≡ link_id_request board.candidate.0 (live (parties_of board)) identifier
+fn request_link_id(board: &Board, named: Party, identifier: IntegerOctets) -> Service
+    ensures { result ≡ link_id_request board.now.candidate.0 (live (parties_of board.now)) identifier
         (link_id_in named.call.link) }
 {
     match named.call.link {
@@ -50,11 +58,11 @@ fn request_link_id(board: Board, named: Party, identifier: IntegerOctets) -> Ser
     }
 }
 
-fn execute(board: Board, named: Party, identifier: IntegerOctets) -> Service
-    ensures { result ≡ executed named identifier (only (paired_on board named)) }
+fn execute(board: &Board, named: Party, identifier: IntegerOctets) -> Service
+    ensures { result ≡ executed named identifier (only (paired_on board.now named)) }
 {
     let Some(other) = only_partner(board, named) else {
-        return failed(identifier, 7);
+        return failed(identifier, INVALID_CALL_STATE);
     };
     Service::Transfer {
         named,
@@ -63,10 +71,10 @@ fn execute(board: Board, named: Party, identifier: IntegerOctets) -> Service
     }
 }
 
-fn execute_explicitly(board: Board, named: Party, identifier: IntegerOctets, id: LinkId) -> Service
-    ensures { result ≡ execute_explicitly board.options named identifier (linked_on board id) }
+fn execute_explicitly(board: &Board, named: Party, identifier: IntegerOctets, id: LinkId) -> Service
+    ensures { result ≡ execute_explicitly board.now.options named identifier (linked_on board.now id) }
 {
-    let Some(other) = linked(board, id) else {
+    let Some(other) = linked(&board.rows, id) else {
         return Service::Respond(Answer::LinkIdNotAssigned(identifier));
     };
     if is_partner(board.options, named, other) {
@@ -76,11 +84,13 @@ fn execute_explicitly(board: Board, named: Party, identifier: IntegerOctets, id:
             identifier,
         };
     }
-    failed(identifier, 7)
+    failed(identifier, INVALID_CALL_STATE)
 }
 
-fn perform(board: Board, named: Party, identifier: IntegerOctets, operation: Operation) -> Service
-    ensures { result ≡ performed_on board named identifier operation }
+// Board, named party and identifier stay apart: few steps take all three, and no rule speaks of them as one.
+// Operations are a closed set of data, on which the rules match too.
+fn perform(board: &Board, named: Party, identifier: IntegerOctets, operation: Operation) -> Service
+    ensures { result ≡ performed_on board.now named identifier operation }
 {
     match operation {
         Operation::EctExecute => execute(board, named, identifier),
@@ -90,8 +100,9 @@ fn perform(board: Board, named: Party, identifier: IntegerOctets, operation: Ope
 }
 
 // What the component of a Facility on the named call comes to.
-pub fn serve(board: Board, named: Party, reading: Reading) -> Service
-    ensures { result ≡ served board.options board.candidate.0 (parties_of board) named reading }
+#[tactic(auto, unfolding(rules::specs::Serving::serve))]
+pub fn serve(board: &Board, named: Party, reading: Reading) -> Service
+    ensures { result ≡ served board.now.options board.now.candidate.0 (parties_of board.now) named reading }
 {
     match reading {
         Reading::Ignored => Service::Silent,
@@ -100,7 +111,7 @@ pub fn serve(board: Board, named: Party, reading: Reading) -> Service
             if board.options.subscribed == 1 {
                 return perform(board, named, identifier, operation);
             }
-            failed(identifier, 0)
+            failed(identifier, NOT_SUBSCRIBED)
         }
     }
 }

@@ -1,12 +1,11 @@
 // The far parties that events and components name, as the rules find them among the rows taken.
 ghost use Rattle.std.specs.Prelude.{◌≡◌};
 ghost use Rattle.octets.specs.Lists.{find as find_in};
-ghost use Rattle.board.specs.Entries.{row_entry, has_party_link_id, row_party};
+ghost use Rattle.board.specs.Entries.{row_entry, has_party_link_id, row_party, taken, calls};
 ghost use Rattle.rules.specs.Checks.{named as named_in, entry_at};
-ghost use Rattle.serving.specs.Code.Parties.{entries_of, parties_of};
 
 use board::finding::{Key, find_row};
-use board::{Board, Connection, Entry, Party, Row, Standing};
+use board::{Connection, Entry, Party, Row, Standing};
 use octets::{CallReference, LinkId};
 
 // The party of a row with a call.
@@ -35,22 +34,25 @@ fn entry_of(row: Row) -> Option<Entry>
 }
 
 // The party whose call has the reference.
-pub fn named(board: Board, reference: CallReference) -> Option<Party>
-    ensures { result ≡ named_in reference.0 (entries_of board) }
+#[tactic(auto, using(crate::proofs::PartyLaws::named_found, crate::proofs::PartyLaws::named_nowhere))]
+pub fn named(rows: &[Row], reference: CallReference) -> Option<Party>
+    ensures { result ≡ named_in reference.0 (taken rows.now) }
 {
-    party_of(find_row(board, Key::Reference(reference)))
+    find_row(rows, Key::Reference(reference)).and_then(party_of)
 }
 
-// The party whose call has the LinkId.
-pub fn linked(board: Board, id: LinkId) -> Option<Party>
-    ensures { result ≡ find_in (has_party_link_id id.0) (parties_of board) }
+// The party whose call has the LinkId. It stands beside `named`: two keys, a line each.
+#[tactic(auto, using(crate::proofs::PartyLaws::linked_found, crate::proofs::PartyLaws::linked_nowhere))]
+pub fn linked(rows: &[Row], id: LinkId) -> Option<Party>
+    ensures { result ≡ find_in (has_party_link_id id.0) (calls (taken rows.now)) }
 {
-    party_of(find_row(board, Key::LinkId(id)))
+    find_row(rows, Key::LinkId(id)).and_then(party_of)
 }
 
 // The entry of the leg.
-pub fn entry_at(board: Board, leg: u32) -> Option<Entry>
-    ensures { result ≡ entry_at leg (entries_of board) }
+#[tactic(auto, using(crate::proofs::PartyLaws::entry_found, crate::proofs::PartyLaws::entry_nowhere))]
+pub fn entry_at(rows: &[Row], leg: u32) -> Option<Entry>
+    ensures { result ≡ entry_at leg (taken rows.now) }
 {
-    entry_of(find_row(board, Key::Leg(leg)))
+    find_row(rows, Key::Leg(leg)).and_then(entry_of)
 }

@@ -1,9 +1,9 @@
 -- Soundness of rows by the columns that they are read into.
-use Rattle.std.specs.Prelude.{ℕ, None, Option, Some, ℤ, length, eqb, cond}
-use Rattle.std.specs.Ordering.{int_eq}
+use Rattle.std.specs.Prelude.{ℕ, None, Option, Some, length, eqb, cond}
 use mathlib.Core.Path.{◌≡◌, refl, sym, ap, ◌∙◌}
 use mathlib.Core.Bool.{Bool, true, false, ◌&&◌, not, and-false, and_assoc}
 use mathlib.Core.List.{List}
+use Rattle.octets.specs.declared.LinkId.{LinkId}
 use Rattle.octets.specs.Lists.{any, all, distinct, filter_map}
 use Rattle.octets.specs.Tests.{has, none_or, has_both}
 use Rattle.octets.proofs.Lists.{filter_ext, all_ext, any_ext}
@@ -13,39 +13,43 @@ use Rattle.board.specs.declared.Connection.{Connection}
 use Rattle.board.specs.declared.Connection.TheVariants.{WithUser, WithPartner}
 use Rattle.board.specs.declared.Row.{Row}
 use Rattle.board.specs.declared.Entry.{Entry}
-use Rattle.board.specs.Entries.{entry, taken, row_entry, linked, present, link_ids}
+use Rattle.board.specs.Entries.{entry, taken, row_entry, linked, link_id_in, link_id_of, present, link_ids}
 use Rattle.board.specs.Soundness.{valid_row, valid_entry, same_references, same_link_ids, answers_to, valid_partner, partnered, sound_entries, sound_rows}
 use Rattle.board.specs.Code.RowTests.{fits}
 use Rattle.board.proofs.Rows.{fits_all}
 use Rattle.row_soundness.specs.declared.keys.JoinedLeg.{JoinedLeg}
-use Rattle.row_soundness.specs.Code.RowKeys.{leg_in, reference_in, link_in, joined_leg_of, joined_in, answers_joined}
-use Rattle.row_soundness.proofs.KeyLaws.{both_numbers, both_links}
+use Rattle.row_soundness.specs.Code.RowKeys.{leg_in, reference_in, call_link_of, link_in, same_reference, same_link, joined_leg_of, joined_in, answers_joined}
+use Rattle.row_soundness.proofs.KeyLaws.{both_references, both_links}
 use Rattle.soundness.specs.declared.Columns.{Columns}
 use Rattle.soundness.specs.Code.Columns.{column, columns_of, gathered, all_answered, sound_columns}
 
 module _ (es : List Entry) where
   -- ---- distinctness
 
-  references_distinct : distinct same_references es ≡ distinct eqb (filter_map reference_in es)
+  references_distinct : distinct same_references es ≡ distinct same_reference (filter_map reference_in es)
   references_distinct =
-      distinct_ext same_references (λ (e f : Entry). has_both eqb (reference_in e) (reference_in f)) es (λ e f. sym (both_numbers (reference_in e) (reference_in f)))
-      ∙ sym (distinct_filter_map reference_in eqb es)
+      distinct_ext same_references (λ (e f : Entry). has_both same_reference (reference_in e) (reference_in f)) es (λ e f. sym (both_references e.connection f.connection))
+      ∙ sym (distinct_filter_map reference_in same_reference es)
 
-  links_distinct : distinct same_link_ids es ≡ distinct int_eq (filter_map link_in es)
+  links_distinct : distinct same_link_ids es ≡ distinct same_link (filter_map link_in es)
   links_distinct =
-      distinct_ext same_link_ids (λ (e f : Entry). has_both int_eq (link_in e) (link_in f)) es (λ e f. sym (both_links (link_in e) (link_in f)))
-      ∙ sym (distinct_filter_map link_in int_eq es)
+      distinct_ext same_link_ids (λ (e f : Entry). has_both same_link (link_in e) (link_in f)) es (λ e f. sym (both_links e.connection f.connection))
+      ∙ sym (distinct_filter_map link_in same_link es)
 
   -- ---- the number of LinkIds
 
   links_counted : link_ids es ≡ length (filter_map link_in es)
   links_counted =
-      ap (λ (l : List Entry). length l) (filter_ext linked (λ (e : Entry). has (λ (z : ℤ). true) (link_in e)) es (λ e. has_number (link_in e)))
+      ap (λ (l : List Entry). length l) (filter_ext linked (λ (e : Entry). has (λ (l : LinkId). true) (link_in e)) es (λ e. has_link e.connection))
       ∙ sym (length_filter_map link_in es)
     where
-      has_number : (o : Option ℤ) → present o ≡ has (λ (z : ℤ). true) o
-      has_number None = refl
-      has_number (Some z) = refl
+      some_link : (o : Option LinkId) → present (link_id_in o) ≡ has (λ (l : LinkId). true) o
+      some_link None = refl
+      some_link (Some l) = refl
+
+      has_link : (k : Connection) → present (link_id_of k) ≡ has (λ (l : LinkId). true) (call_link_of k)
+      has_link (WithUser c) = some_link c.link
+      has_link (WithPartner p a) = refl
 
   -- ---- partners: only joined rows have one, and are one
 

@@ -14,6 +14,7 @@ ghost use Rattle.soundness.specs.Code.Columns.{one_or_none, gathered, sound_colu
 
 use arrayvec::ArrayVec;
 use board::{Board, Counts, MOST_LINK_IDS, Row, Tally, Unsound, valid_options};
+use octets::{CallReference, LinkId};
 use row_soundness::keys::{JoinedLeg, answers, joined_leg, leg, link, reference};
 use row_soundness::{row_fits, row_tally};
 
@@ -21,8 +22,8 @@ use row_soundness::{row_fits, row_tally};
 #[derive(Drop)]
 struct Columns {
     legs: ArrayVec<u32, 64>,
-    references: ArrayVec<u16, 64>,
-    links: ArrayVec<i16, 64>,
+    references: ArrayVec<CallReference, 64>,
+    links: ArrayVec<LinkId, 64>,
     joined: ArrayVec<JoinedLeg, 64>,
 }
 
@@ -41,7 +42,7 @@ fn all_differ<T: PartialEq>(column: &[T]) -> bool
 }
 
 // For each low octet a place where a leg with that octet stands. It says only where to look first, which takes two
-// fifths of the instructions off the test of 64 joined rows.
+// fifths of the instructions off the test of 64 joined rows. At most 64 legs: a place is an octet.
 fn places(legs: &[JoinedLeg]) -> [u8; 256]
     requires { length legs.now ≤ 64 }
 {
@@ -56,15 +57,12 @@ fn places(legs: &[JoinedLeg]) -> [u8; 256]
 fn is_answered(a: JoinedLeg, first: u8, legs: &[JoinedLeg]) -> bool
     ensures { result ≡ any (answers_joined a) legs.now }
 {
-    if let Some(b) = legs.get(first as usize) {
-        if answers(a, *b) {
-            return true;
-        }
-    }
-    legs.iter().any(|b| answers(a, *b))
+    legs.get(usize::from(first)).is_some_and(|b| answers(a, *b))
+        || legs.iter().any(|b| answers(a, *b))
 }
 
 // Whether each joined leg has another as its partner that is joined back to it, not both alerting.
+// At most 64 legs, for `places`.
 fn all_joined_back(legs: &[JoinedLeg]) -> bool
     requires { length legs.now ≤ 64 }
     ensures { result ≡ all_answered legs.now }
@@ -74,6 +72,7 @@ fn all_joined_back(legs: &[JoinedLeg]) -> bool
         && is_answered(*a, places[(a.partner % 256) as usize], legs))
 }
 
+// Room is asked for, not tested: a column holds 64 rows, and would have no answer to one more.
 fn add<T: Drop>(column: &mut ArrayVec<T, 64>, value: Option<T>)
     requires { array_vec_len column.old < 64 }
     ensures { column.new.items ≡ column.old.items ++ one_or_none value }
@@ -115,13 +114,11 @@ fn sound_columns(columns: &Columns) -> bool
         && all_joined_back(columns.joined.as_slice())
 }
 
+#[tactic(auto, using(crate::proofs::ColumnSoundness::some_gathered, crate::proofs::ColumnSoundness::none_gathered))]
 pub fn sound_rows(rows: [Row; 64]) -> bool
     ensures { result ≡ sound_rows rows }
 {
-    match gather(&rows) {
-        Some(columns) => sound_columns(&columns),
-        None => false,
-    }
+    gather(&rows).is_some_and(|columns| sound_columns(&columns))
 }
 
 #[tactic(auto, unfolding(board::specs::Soundness::sound))]
@@ -132,6 +129,7 @@ pub fn sound(board: Board) -> bool
 }
 
 // What the rows count for, before joined rows are halved.
+#[tactic(auto, using(octets::proofs::Loops::step_at, octets::proofs::Loops::past_end, octets::proofs::Loops::count_step, octets::proofs::Loops::count_end, board::proofs::Rows::tally_all))]
 pub fn tally(rows: &[Row]) -> Tally
     ensures { result ≡ tally_of rows.now }
 {
@@ -149,23 +147,13 @@ pub fn tally(rows: &[Row]) -> Tally
     tally
 }
 
-pub fn add_up(rows: [Row; 64]) -> Tally
-    ensures { result ≡ tally_of rows }
-{
-    tally(&rows)
-}
-
 // The counts of the board's rows, once they are found sound; the options do not matter.
+#[tactic(auto, unfolding(board::specs::Counts::counts, board::specs::Code::Tallies::tally_of))]
 pub fn count(board: Board) -> Result<Counts, Unsound>
     ensures { counted_answer result ≡ counts board.rows }
 {
     if !sound_rows(board.rows) {
         return Err(Unsound);
     }
-    let tally = add_up(board.rows);
-    Ok(Counts {
-        legs: tally.legs,
-        pairs: tally.joined / 2,
-        links: tally.links,
-    })
+    Ok(tally(&board.rows).into())
 }

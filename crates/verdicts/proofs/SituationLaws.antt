@@ -1,4 +1,5 @@
 -- The numbers of situations: each is below 32, and they are told by a call's two states and its direction alone.
+use Rattle.std.proofs.lemmas.List.{get_or-map}
 use Prim.Native.Nat.{ℕ, zero, suc, ◌+◌, ◌*◌, ◌<◌}
 use native.Mathlib.Omega.{arith}
 use native.Mathlib.Nat.{not-suc-le-zero, le_of_suc-le-suc}
@@ -50,11 +51,6 @@ module _ {A B : Type 0} (f : A → List B) (n : ℕ) (even : (x : A) → length 
       ∙ get_or-append-add (f x) (flat_map f xs) (n * i + j) b
       ∙ piece_at xs i j a b (le_of_suc-le-suc h) k
 
-pub mapped_at : {A B : Type 0} (f : A → B) (xs : List A) (i : ℕ) (a : A) (b : B) → i < length xs → get_or (map f xs) i b ≡ f (get_or xs i a)
-mapped_at f [] i a b h = absurd (not-suc-le-zero h)
-mapped_at f (x ∷ xs) zero a b h = refl
-mapped_at f (x ∷ xs) (suc i) a b h = mapped_at f xs i a b (le_of_suc-le-suc h)
-
 -- ---- the call of a situation
 
 state_at : (s : CallState) → get_or states (state_place s) OutgoingCallProceeding ≡ s
@@ -92,5 +88,5 @@ call_at c =
     ∙ ap (λ (t : CallState). get_or (situations_in t) (2 * a + d) no_call) (state_at c.state)
     ∙ piece_at (λ (x : AuxiliaryState). map (call_in c.state x) directions) 2 (λ x. refl) auxiliaries a d Idle no_call (auxiliary_below c.auxiliary) (direction_below c.direction)
     ∙ ap (λ (t : AuxiliaryState). get_or (map (call_in c.state t) directions) d no_call) (auxiliary_at c.auxiliary)
-    ∙ mapped_at (call_in c.state c.auxiliary) directions d Outgoing no_call (direction_below c.direction)
+    ∙ get_or-map (call_in c.state c.auxiliary) directions d Outgoing no_call (direction_below c.direction)
     ∙ ap (call_in c.state c.auxiliary) (direction_at c.direction)

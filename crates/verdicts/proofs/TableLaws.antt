@@ -1,4 +1,5 @@
 -- Tables of any rule that looks at situations alone: the entry for two calls is what the rule says of them.
+use Rattle.std.proofs.lemmas.List.{get_or-map}
 use Prim.Native.Nat.{ℕ}
 use mathlib.Core.Path.{◌≡◌, ◌∙◌, refl, sym, ap, ap₂}
 use mathlib.Core.List.{List, map, flat_map}
@@ -6,7 +7,7 @@ use lib.ListN.{get_or}
 use Rattle.board.specs.declared.Call.{Call}
 use Rattle.verdicts.specs.Situations.{situation, situations}
 use Rattle.verdicts.specs.Tables.{table_of, verdict_in}
-use Rattle.verdicts.proofs.SituationLaws.{situation_below, piece_at, mapped_at, plain, no_call, call_at}
+use Rattle.verdicts.proofs.SituationLaws.{situation_below, piece_at, plain, no_call, call_at}
 
 -- the rule says the same of all calls in the same situations
 abbrev pub OnSituations : (Call → Call → ℕ) → Type 0
@@ -16,7 +17,7 @@ pub table_is_rule : (rule : Call → Call → ℕ) → OnSituations rule → (c 
 unfolding table_of flat_map
 table_is_rule rule on c d =
     piece_at (λ (x : Call). map (rule x) situations) 32 (λ x. refl) situations (situation c) (situation d) no_call 0 (situation_below c) (situation_below d)
-    ∙ mapped_at (rule (get_or situations (situation c) no_call)) situations (situation d) no_call 0 (situation_below d)
+    ∙ get_or-map (rule (get_or situations (situation c) no_call)) situations (situation d) no_call 0 (situation_below d)
     ∙ ap₂ rule (call_at c) (call_at d)
     ∙ on c d
 

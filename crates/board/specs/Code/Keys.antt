@@ -1,12 +1,9 @@
 -- What a row is found by: its call's reference, its leg, its call's LinkId, or that it is empty.
-use Rattle.std.specs.Prelude.{ℕ, Bool, false, ◌&&◌, not, List, eqb, ℤ}
-use Rattle.octets.specs.Lists.{any}
-use Rattle.octets.specs.declared.CallReference.{CallReference}
+use Rattle.std.specs.Prelude.{ℕ, Bool, false, ◌&&◌, not, eqb, ℤ}
 use Rattle.board.specs.declared.Standing.{Standing}
 use Rattle.board.specs.declared.Standing.TheVariants.{Empty, Served, Joined}
 use Rattle.board.specs.declared.Row.{Row}
 use Rattle.board.specs.declared.finding.Key.{Key}
-use Rattle.board.specs.declared.finding.OpenCheck.{OpenCheck}
 use Rattle.board.specs.declared.finding.Key.TheVariants as key
 use Rattle.board.specs.Entries.{occupied, link_id_in, is_link_id}
 use Rattle.board.specs.Lookup.{has_call_of}
@@ -30,8 +27,3 @@ matches_key (key.Reference r) row = has_call_of r.0 row
 matches_key (key.Leg n) row = has_row_leg n row
 matches_key (key.LinkId l) row = has_link_id_of l.0 row.standing
 matches_key key.Empty row = is_empty row
-
--- what an Open asks of the rows: whether one has the leg, one the reference, and one is empty
-abbrev pub open_check_of : ℕ → CallReference → List Row → OpenCheck
-open_check_of n r rows =
-    record { leg = any (matches_key (key.Leg n)) rows; reference = any (matches_key (key.Reference r)) rows; empty = any (matches_key key.Empty) rows }

@@ -1,19 +1,16 @@
 use native.Mathlib.Omega.{arith}
 use mathlib.Core.Path.{◌≡◌, sym}
-use lib.ListN.{length, take, length-take}
+use lib.ListN.{length, length-take}
 use borrow.Author.Rules.{rules}
-use Rattle.log_text.proofs.TextLaws.{line_short}
 use Rattle.rules.specs.Step.{step_tested}
-use Rattle.playing.proofs.PlayingLaws.{count_within, told, outcome_short, written}
+use Rattle.playing.proofs.PlayingLaws.{count_within, told, outcome_short, line_written}
 use Rattle.playing.proofs.play_record.Goals as goal
 
 pub unwrap-n-requires : goal.unwrap-n-requires
 unwrap-n-requires c =
     let reply = c.step_tested-stepped.new.reply in
     let long : length reply ≡ 128 = search rules in
-    let count = c.written-count.result in
-    let short = line_short c.args.number c.kind_of-kind.result c.returned-number_returned.result (take count reply) (search rules) (search rules) (search rules) (omega (arith, length-take count reply, long)) in
-    written c.record_line.ensures (omega (arith, short, c.requires.1))
+    line_written _ c.record_line.ensures (search rules) (search rules) (search rules) (omega (arith, length-take c.written-count.result reply, long)) c.requires.1
 
 pub returns : goal.returns
 returns c =
@@ -21,8 +18,7 @@ returns c =
     let v = c.args in
     let s = c.step_tested-stepped.ensures in
     let r = c.returned-number_returned in
-    let k = c.kind_of-kind in
     let o = step_tested v.is_sound v.board v.event.now 128 in
-    told s r.ensures c.written-count.ensures (rw (k.ensures, c.unwrap-n.ensures) at c.record_line.ensures)
-    (outcome_short o v.number v.event.now (search rules) (rw (sym k.ensures) (search rules)) (rw (sym s.answer, sym r.ensures) (search rules))
+    told s r.ensures c.written-count.ensures (rw c.unwrap-n.ensures at c.record_line.ensures)
+    (outcome_short o v.number v.event.now (search rules) (search rules) (rw (sym s.answer, sym r.ensures) (search rules))
     (rw (sym s.count, sym (long)) (count_within s (long))))

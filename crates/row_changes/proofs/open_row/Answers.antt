@@ -1,7 +1,6 @@
 use borrow.Author.Rules.{rules}
-use native.Mathlib.Omega.{arith}
-use Prim.Native.Nat.{ℕ, ◌<◌}
-use mathlib.Core.Path.{◌≡◌, ap, sym}
+use Prim.Native.Nat.{ℕ}
+use mathlib.Core.Path.{◌≡◌, sym}
 use mathlib.Core.List.{List}
 use Rattle.std.specs.Prelude.{Option, Some}
 use Rattle.octets.specs.Lists.{place_from}
@@ -10,8 +9,6 @@ use Rattle.board.specs.declared.Row.{Row}
 use Rattle.board.specs.declared.finding.Key.TheVariants as key
 use Rattle.board.specs.Code.Keys.{matches_key, is_empty}
 use Rattle.board.specs.Making.{empty_row}
-use Rattle.board.specs.Changes.{with_rows}
-use Rattle.board.proofs.Long.{board_long}
 use Rattle.board.proofs.Searches.{key_lowest, key_nowhere, enter_at_lem, enter_full}
 use Rattle.row_changes.proofs.open_row.Goals as goal
 
@@ -19,13 +16,13 @@ lowest : (rows : List Row) {found : Option ℕ} {i : ℕ} → found ≡ place_fr
 lowest rows e s = key_lowest key.Empty rows empty_row _ (told e s)
 
 pub bounds-rows-i : goal.bounds-rows-i
-bounds-rows-i c = omega (arith, (lowest c.args.board.rows c.find.ensures c.in-Some.is).within, board_long c.args.board c.well_formed.0)
+bounds-rows-i c = (lowest c.args.rows.now c.find.ensures c.in-Some.is).within
 
 pub offset_bounds-rows-i : goal.offset_bounds-rows-i
-offset_bounds-rows-i c = let below : c.in-Some.i < 64 = omega (arith, (lowest c.args.board.rows c.find.ensures c.in-Some.is).within, board_long c.args.board c.well_formed.0) in search rules
+offset_bounds-rows-i c = let below = (lowest c.args.rows.now c.find.ensures c.in-Some.is).within in search rules
 
-pub returns : goal.returns
-returns c = ap (λ (r : List Row). with_rows r c.args.board) (sym (enter_at_lem c.args.row c.args.board.rows empty_row _ (lowest c.args.board.rows c.find.ensures c.in-Some.is)))
+pub returns-in-Some : goal.returns-in-Some
+returns-in-Some c = sym (enter_at_lem c.args.row c.args.rows.now empty_row _ (lowest c.args.rows.now c.find.ensures c.in-Some.is))
 
 pub returns-in_default : goal.returns-in_default
-returns-in_default c = ap (λ (r : List Row). with_rows r c.args.board) (sym (enter_full c.args.row c.args.board.rows (key_nowhere key.Empty c.args.board.rows (told c.find.ensures c.in_default.is))))
+returns-in_default c = sym (enter_full c.args.row c.args.rows.now (key_nowhere key.Empty c.args.rows.now (told c.find.ensures c.in_default.is)))

@@ -1,12 +1,15 @@
 -- What rows are compared by. The rules are those of board/specs/Soundness; proofs/KeyLaws shows that rows compared by these are compared as
 -- the rules say.
-use Rattle.std.specs.Prelude.{ℕ, Bool, ℤ, None, Option, Some}
+use Rattle.std.specs.Prelude.{ℕ, Bool, None, Option, Some, eqb}
+use Rattle.std.specs.Ordering.{int_eq}
+use Rattle.octets.specs.declared.CallReference.{CallReference}
+use Rattle.octets.specs.declared.LinkId.{LinkId}
 use Rattle.octets.specs.Tests.{bind_option}
 use Rattle.board.specs.declared.Connection.{Connection}
 use Rattle.board.specs.declared.Connection.TheVariants.{WithUser, WithPartner}
 use Rattle.board.specs.declared.Entry.{Entry}
 use Rattle.board.specs.declared.Row.{Row}
-use Rattle.board.specs.Entries.{row_entry, reference_of, link_id_of}
+use Rattle.board.specs.Entries.{row_entry}
 use Rattle.board.specs.Soundness.{answers_to}
 use Rattle.row_soundness.specs.declared.keys.JoinedLeg.{JoinedLeg}
 
@@ -15,11 +18,19 @@ use Rattle.row_soundness.specs.declared.keys.JoinedLeg.{JoinedLeg}
 abbrev pub leg_in : Entry → Option ℕ
 leg_in e = Some e.leg
 
-abbrev pub reference_in : Entry → Option ℕ
-reference_in e = reference_of e.connection
+abbrev pub call_reference_of : Connection → Option CallReference
+call_reference_of (WithUser c) = Some c.reference
+call_reference_of (WithPartner p a) = None
 
-abbrev pub link_in : Entry → Option ℤ
-link_in e = link_id_of e.connection
+abbrev pub reference_in : Entry → Option CallReference
+reference_in e = call_reference_of e.connection
+
+abbrev pub call_link_of : Connection → Option LinkId
+call_link_of (WithUser c) = c.link
+call_link_of (WithPartner p a) = None
+
+abbrev pub link_in : Entry → Option LinkId
+link_in e = call_link_of e.connection
 
 abbrev pub joined_leg_of : ℕ → Connection → Option JoinedLeg
 joined_leg_of n (WithUser c) = None
@@ -32,6 +43,14 @@ joined_in e = joined_leg_of e.leg e.connection
 module _ {A : Type 0} where
   abbrev pub in_row : (Entry → Option A) → Row → Option A
   in_row f r = bind_option f (row_entry r)
+
+-- ---- what is there in both, and the same
+
+abbrev pub same_reference : CallReference → CallReference → Bool
+same_reference r s = eqb r.0 s.0
+
+abbrev pub same_link : LinkId → LinkId → Bool
+same_link k l = int_eq k.0 l.0
 
 -- ---- joined legs
 

@@ -1,23 +1,16 @@
 -- The parties of a board, and what the code finds among them.
-use Rattle.std.specs.Prelude.{Bool, List, ℤ, Option}
+use Rattle.std.specs.Prelude.{List, ℤ, Option}
 use Rattle.octets.specs.declared.LinkId.{LinkId}
 use Rattle.octets.specs.declared.IntegerOctets.{IntegerOctets}
 use Rattle.octets.specs.Lists.{filter, find}
-use Rattle.octets.specs.Tests.{has}
 use Rattle.component.specs.declared.Operation.{Operation}
-use Rattle.board.specs.declared.Row.{Row}
-use Rattle.board.specs.declared.Options.{Options}
 use Rattle.board.specs.declared.Board.{Board}
 use Rattle.board.specs.declared.Entry.{Entry}
 use Rattle.board.specs.declared.Party.{Party}
-use Rattle.board.specs.Entries.{taken, calls, has_party_link_id, row_party}
+use Rattle.board.specs.Entries.{taken, calls, has_party_link_id}
 use Rattle.board.specs.LinkIds.{most_link_ids, free_link_id, live}
 use Rattle.rules.specs.Serving.{partner_for, perform}
 use Rattle.rules.specs.declared.Service.{Service}
-
--- the row has a call that pairs with the named one
-abbrev pub has_partner : Options → Party → Row → Bool
-has_partner o named row = has (partner_for o named) (row_party row)
 
 -- the rows taken of a board, and its calls with the served user
 abbrev pub entries_of : Board → List Entry

@@ -1,13 +1,12 @@
 -- Columns of what the rows not empty have to be compared by, to be tested for soundness.
 use Rattle.std.specs.Prelude.{Bool, ◌&&◌, not, cond, eqb, leb, List, [], ◌∷◌, length, None, Option, Some}
-use Rattle.std.specs.Ordering.{int_eq}
 use Rattle.octets.specs.Lists.{any, all, distinct, filter_map}
 use Rattle.board.specs.declared.Entry.{Entry}
 use Rattle.board.specs.declared.Row.{Row}
 use Rattle.board.specs.LinkIds.{most_link_ids}
 use Rattle.board.specs.Code.RowTests.{fits}
 use Rattle.row_soundness.specs.declared.keys.JoinedLeg.{JoinedLeg}
-use Rattle.row_soundness.specs.Code.RowKeys.{leg_in, reference_in, link_in, joined_in, in_row, answers_joined}
+use Rattle.row_soundness.specs.Code.RowKeys.{leg_in, reference_in, link_in, same_reference, same_link, joined_in, in_row, answers_joined}
 use Rattle.soundness.specs.declared.Columns.{Columns}
 
 module _ {A : Type 0} where
@@ -40,7 +39,7 @@ all_answered js = all (λ (j : JoinedLeg). not (eqb j.leg j.partner) && any (ans
 abbrev pub sound_columns : Columns → Bool
 sound_columns c =
     distinct eqb c.legs.items
-    && (distinct eqb c.references.items
-    && (distinct int_eq c.links.items
+    && (distinct same_reference c.references.items
+    && (distinct same_link c.links.items
     && (leb (length c.links.items) most_link_ids
     && all_answered c.joined.items)))

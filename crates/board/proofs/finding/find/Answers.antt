@@ -8,6 +8,6 @@ use Rattle.board.proofs.finding.find.Goals as goal
 
 pub returns : goal.returns
 returns c =
-    let rows = c.args.board.rows in
+    let rows = c.args.rows.now in
     position_from_yields_List (matches_key c.args.key) _ _ c.position.result c.position.ensures.ran (YieldsList-from_slice rows cc) (λ x b q k. search (rules, tests))
     ∙ position_is (matches_key c.args.key) rows

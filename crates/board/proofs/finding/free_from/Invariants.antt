@@ -4,5 +4,5 @@ use Rattle.board.specs.LinkIds.{most_link_ids, live, free_link_id}
 use Rattle.board.specs.Entries.{taken, calls}
 use Rattle.board.proofs.finding.free_from.Given as goal
 
-abbrev pub invariant-loop-k : goal.invariant-loop-k
-invariant-loop-k l = (l.k ≤ most_link_ids) × (free_link_id (most_link_ids - l.k) l.id.0 (live (calls (taken l.board.rows))) ≡ free_link_id most_link_ids l.initial.id.0 (live (calls (taken l.board.rows))))
+abbrev pub invariant-loop : goal.invariant-loop
+invariant-loop l = (l.counter ≤ most_link_ids) × (free_link_id (most_link_ids - l.counter) l.id.0 (live (calls (taken l.board.rows))) ≡ free_link_id most_link_ids l.initial.id.0 (live (calls (taken l.board.rows))))

@@ -1,61 +1,33 @@
 use Rattle.std.proofs.Common.{rules, tests}
 use Rattle.std.proofs.lemmas.Iterator.{YieldsList-from_slice}
-use Rattle.std.proofs.lemmas.Iterator.Search.{any_from_yields_List, position_from_yields_List}
-use Prim.Native.Nat.{ℕ, ◌+◌, ◌-◌}
-use native.Mathlib.Omega.{arith}
-use mathlib.Core.Path.{◌≡◌, ◌∙◌}
-use mathlib.Core.List.{List}
-use lib.ListN.{length, take, drop, length-drop}
-use lib.Seq.{take_all}
-use Rattle.board.specs.declared.Row.{Row}
-use Rattle.std.specs.Prelude.{None}
-use Rattle.octets.specs.Lists.{place_from}
+use Rattle.std.proofs.lemmas.Iterator.Consumers.{YieldsList-from_copied, YieldsList-from_filter_map, YieldsList-from_filter}
+use mathlib.Core.Path.{◌∙◌, sym, ap}
+use Rattle.octets.specs.Lists.{only}
+use Rattle.board.specs.Entries.{row_party}
 use Rattle.rules.specs.Serving.{partner_for}
-use Rattle.serving.specs.Code.Parties.{has_partner}
-use Rattle.serving.specs.Code.Lookups.{has_partner_by}
-use Rattle.serving.proofs.PairingLaws.{place_by, any_by, only_nowhere, only_here, only_several}
+use Rattle.serving.proofs.PairingLaws.{kept_calls, only_nowhere, only_here, only_several}
 use Rattle.serving.proofs.pairing.only_partner.Goals as goal
-use Rattle.serving.proofs.pairing.only_partner.Goals.{In-Some, In_default, After-any}
 
-behind : (rows : List Row) (k : ℕ) → take (length rows - k) (drop k rows) ≡ drop k rows
-behind rows k = take_all (length rows - k) (drop k rows) (let l = length-drop k rows in omega (arith, l))
+pub returns-in_err-first : goal.returns-in_err-first
+returns-in_err-first c =
+    let q = partner_for c.args.board.now.options c.args.named in
+    c.from_residual.ensures ∙ only_nowhere _ _ c.next.ensures.steps c.in_err-first.was
+    (YieldsList-from_filter _ q (YieldsList-from_filter_map _ row_party (YieldsList-from_copied (YieldsList-from_slice c.args.board.now.rows cc)) c.filter_map.ensures.closure (λ x r f k. search (rules, tests)))
+    c.filter-pairing.ensures.closure (λ x b f k. search (rules, tests)))
+    ∙ ap only (kept_calls q c.args.board.now.rows)
 
-pub nowhere : (c : In_default) → place_from (has_partner c.args.board.options c.args.named) 0 c.args.board.rows ≡ None
-nowhere c =
-    let o = c.args.board.options in
-    let n = c.args.named in
-    let rows = c.args.board.rows in
-    let p = c.position.result in
-    place_by _ c.pair_table-table.ensures o n rows
-    (position_from_yields_List (has_partner_by c.pair_table-table.result.now o n) _ _ p c.position.ensures.ran (YieldsList-from_slice rows cc) (λ x b q k. search (rules, tests)))
-    ∙ c.in_default.is
-
-pub returns-in_default : goal.returns-in_default
-returns-in_default c = only_nowhere (partner_for c.args.board.options c.args.named) c.args.board.rows (nowhere (goal.at.returns-in_default c).In_default)
-
-pub returns-then-any : goal.returns-then-any
-returns-then-any c =
-    let o = c.args.board.options in
-    let n = c.args.named in
-    let rows = c.args.board.rows in
-    let first = place_by _ c.pair_table-table.ensures o n rows
-    (position_from_yields_List (has_partner_by c.pair_table-table.result.now o n) _ _ c.position.result c.position.ensures.ran (YieldsList-from_slice rows cc) (λ x b q k. search (rules, tests)))
-    ∙ c.in-Some.is in
-    only_several (partner_for o n) rows first
-    (any_by _ c.pair_table-table.ensures o n (drop (c.in-Some.first + 1) rows)
-    (any_from_yields_List (has_partner_by c.pair_table-table.result.now o n) _ _ c.any.result c.any.ensures.ran (YieldsList-from_slice (drop (c.in-Some.first + 1) rows) (c.iter-2.ensures.rest ∙ behind rows (c.in-Some.first + 1))) (λ x b q k. search (rules, tests)))
-    ∙ c.if-any.true)
+pub returns-then-is_some : goal.returns-then-is_some
+returns-then-is_some c =
+    let q = partner_for c.args.board.now.options c.args.named in
+    only_several _ _ _ _ c.next.ensures.steps c.in_ok-first.was c.next-2.ensures.steps (sym c.is_some.ensures ∙ c.if-is_some.true)
+    (YieldsList-from_filter _ q (YieldsList-from_filter_map _ row_party (YieldsList-from_copied (YieldsList-from_slice c.args.board.now.rows cc)) c.filter_map.ensures.closure (λ x r f k. search (rules, tests)))
+    c.filter-pairing.ensures.closure (λ x b f k. search (rules, tests)))
+    ∙ ap only (kept_calls q c.args.board.now.rows)
 
 pub returns : goal.returns
 returns c =
-    let o = c.args.board.options in
-    let n = c.args.named in
-    let rows = c.args.board.rows in
-    let first = place_by _ c.pair_table-table.ensures o n rows
-    (position_from_yields_List (has_partner_by c.pair_table-table.result.now o n) _ _ c.position.result c.position.ensures.ran (YieldsList-from_slice rows cc) (λ x b q k. search (rules, tests)))
-    ∙ c.in-Some.is in
-    c.party_of.ensures
-    ∙ only_here (partner_for o n) rows first
-    (any_by _ c.pair_table-table.ensures o n (drop (c.in-Some.first + 1) rows)
-    (any_from_yields_List (has_partner_by c.pair_table-table.result.now o n) _ _ c.any.result c.any.ensures.ran (YieldsList-from_slice (drop (c.in-Some.first + 1) rows) (c.iter-2.ensures.rest ∙ behind rows (c.in-Some.first + 1))) (λ x b q k. search (rules, tests)))
-    ∙ c.if-any.false)
+    let q = partner_for c.args.board.now.options c.args.named in
+    only_here _ _ _ _ c.next.ensures.steps c.in_ok-first.was c.next-2.ensures.steps (sym c.is_some.ensures ∙ c.if-is_some.false)
+    (YieldsList-from_filter _ q (YieldsList-from_filter_map _ row_party (YieldsList-from_copied (YieldsList-from_slice c.args.board.now.rows cc)) c.filter_map.ensures.closure (λ x r f k. search (rules, tests)))
+    c.filter-pairing.ensures.closure (λ x b f k. search (rules, tests)))
+    ∙ ap only (kept_calls q c.args.board.now.rows)

@@ -1,0 +1,2 @@
+-- Definitions that describe the code, for its proofs.
+pub mod Readers
