@@ -10,7 +10,8 @@ use Rattle.octets.specs.declared.LinkId.{LinkId}
 use Rattle.octets.specs.Numbers.{same_integer, next_link_id}
 use Rattle.octets.specs.Lists.{any, filter_map}
 use Rattle.octets.proofs.Lists.{any_ext}
-use Rattle.octets.proofs.Places.{any_filter_map, filter_map_filter_map, filter_map_ext}
+use Rattle.octets.proofs.Loops.{any_filter_map}
+use Rattle.octets.proofs.Places.{filter_map_filter_map, filter_map_ext}
 use Rattle.board.specs.declared.Row.{Row}
 use Rattle.board.specs.declared.finding.Key.TheVariants as key
 use Rattle.board.specs.Entries.{Connection, WithUser, WithPartner, Entry, Party, taken, party_of, calls, link_id_in, link_id_of, is_link_id, has_link_id}
@@ -36,7 +37,7 @@ live_entries es =
 pub live_any : (z : ℤ) (es : List Entry) → any (same_integer z) (live (calls es)) ≡ any (has_link_id z) es
 live_any z es =
     ap (any (same_integer z)) (live_entries es)
-    ∙ any_filter_map (same_integer z) (λ (e : Entry). link_id_of e.connection) es
+    ∙ any_filter_map (λ (e : Entry). link_id_of e.connection) (same_integer z) es
     ∙ any_ext (λ (e : Entry). has (same_integer z) (link_id_of e.connection)) (has_link_id z) es (λ e. is_link_id_lem z (link_id_of e.connection))
 
 -- a LinkId is live where some row has it

@@ -9,11 +9,13 @@ use mathlib.Core.Bool.{Bool, true, false, ◌&&◌, ◌||◌, not}
 use mathlib.Core.List.{List, [], ◌∷◌}
 use lib.Dec.{eqb}
 use lib.ListN.{get_or, set}
+use Rattle.std.proofs.lemmas.Bool.{not-false}
 use Rattle.octets.specs.declared.CallReference.{CallReference}
 use Rattle.octets.specs.declared.LinkId.{LinkId}
 use Rattle.octets.specs.Lists.{any, find, filter_map, place_from, or_else}
 use Rattle.octets.proofs.Lists.{is_not, any_ext}
-use Rattle.octets.proofs.Places.{Lowest, place_cons, place_lowest, place_none, place_ext, value_at, find_filter_map, any_filter_map, filter_map_filter_map}
+use Rattle.octets.proofs.Loops.{any_filter_map}
+use Rattle.octets.proofs.Places.{Lowest, place_cons, place_lowest, place_none, place_ext, value_at, find_filter_map, filter_map_filter_map}
 use Rattle.board.specs.declared.Standing.{Standing}
 use Rattle.board.specs.declared.Standing.TheVariants.{Empty, Served, Joined}
 use Rattle.board.specs.declared.Row.{Row}
@@ -90,7 +92,7 @@ entry_by_leg n rows d = entry_found_lem (has_leg n) (matches_key (key.Leg n)) ro
 -- ---- some entry has a leg, a reference or a LinkId where some row has it
 
 any_entry : (q : Entry → Bool) (p : Row → Bool) (rows : List Row) → ((row : Row) → has q (row_entry row) ≡ p row) → any q (taken rows) ≡ any p rows
-any_entry q p rows f = any_filter_map q row_entry rows ∙ any_ext (λ (row : Row). has q (row_entry row)) p rows f
+any_entry q p rows f = any_filter_map row_entry q rows ∙ any_ext (λ (row : Row). has q (row_entry row)) p rows f
 
 pub any_leg : (n : ℕ) (rows : List Row) → any (has_leg n) (taken rows) ≡ any (matches_key (key.Leg n)) rows
 any_leg n rows = any_entry (has_leg n) (matches_key (key.Leg n)) rows (leg_test n)
@@ -141,13 +143,9 @@ pub enter_at_lem : (new : Row) (rows : List Row) (d : Row) (i : ℕ) → Lowest 
 enter_at_lem new [] d i w = absurd (not-suc-le-zero w.within)
 enter_at_lem new (x ∷ rows) d zero w = ap (λ (b : Bool). enter_at b new x rows (enter new rows)) (is_not {b = occupied x.standing} w.passes)
 enter_at_lem new (x ∷ rows) d (suc i) w =
-    ap (λ (b : Bool). enter_at b new x rows (enter new rows)) (not_empty (occupied x.standing) (w.earlier zero (suc-le-suc zero-le)))
+    ap (λ (b : Bool). enter_at b new x rows (enter new rows)) (not-false (occupied x.standing) (w.earlier zero (suc-le-suc zero-le)))
     ∙ ap (λ (r : List Row). x ∷ r)
     (enter_at_lem new rows d i (record { within = le_of_suc-le-suc w.within; passes = w.passes; earlier = λ j h. w.earlier (suc j) (suc-le-suc h) }))
-  where
-    not_empty : (b : Bool) → not b ≡ false → b ≡ true
-    not_empty true e = refl
-    not_empty false e = sym e
 
 pub enter_full : (new : Row) (rows : List Row) → any is_empty rows ≡ false → enter new rows ≡ rows
 enter_full new [] e = refl

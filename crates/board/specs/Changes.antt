@@ -11,7 +11,8 @@ use Rattle.board.specs.declared.Standing.TheVariants.{Empty, Served, Joined}
 use Rattle.board.specs.declared.Row.{Row}
 use Rattle.board.specs.declared.Board.{Board}
 use Rattle.board.specs.declared.Change.{Change}
-use Rattle.board.specs.declared.Change.TheVariants.{SetState, SetAuxiliary, SetLinkId, Join, EndAlerting, Release, ReleasePair}
+use Rattle.board.specs.declared.Change.TheVariants.{SetState, SetAuxiliary, SetLinkId, Join, EndAlerting, Release}
+use Rattle.board.specs.declared.Change.TheVariants.{ReleasePair}
 use Rattle.board.specs.States.{delivered}
 use Rattle.board.specs.Entries.{occupied}
 use Rattle.board.specs.Making.{empty_row}

@@ -9,7 +9,8 @@ use Rattle.board.specs.declared.Row.{Row}
 use Rattle.board.specs.declared.Options.{Options}
 use Rattle.board.specs.declared.Board.{Board}
 use Rattle.board.specs.States.{valid_call}
-use Rattle.board.specs.Entries.{Connection, WithUser, WithPartner, Entry, taken, has_leg, reference_of, is_number, link_id_of, is_link_id, link_ids}
+use Rattle.board.specs.Entries.{Connection, WithUser, WithPartner, Entry, taken, has_leg, reference_of, is_number}
+use Rattle.board.specs.Entries.{link_id_of, is_link_id, link_ids}
 use Rattle.board.specs.LinkIds.{most_link_ids}
 
 -- ---- "fields obey this section and the digit rules below"

@@ -1,5 +1,6 @@
 -- Calls: their references, states and directions (document 01, "The board").
-use Rattle.std.specs.Prelude.{ℕ, ◌%◌, Bool, true, false, ◌&&◌, ◌||◌, not, eqb, cond, Result, Ok, Err}
+use Rattle.std.specs.Prelude.{ℕ, ◌%◌, Bool, true, false, ◌&&◌, ◌||◌, not, eqb, Option, [], ◌∷◌}
+use Rattle.octets.specs.Lists.{find}
 use Rattle.board.specs.declared.Direction.{Direction}
 use Rattle.board.specs.declared.Direction.TheVariants.{Outgoing, Incoming}
 use Rattle.board.specs.declared.CallState.{CallState}
@@ -7,7 +8,6 @@ use Rattle.board.specs.declared.CallState.TheVariants.{OutgoingCallProceeding, C
 use Rattle.board.specs.declared.AuxiliaryState.{AuxiliaryState}
 use Rattle.board.specs.declared.AuxiliaryState.TheVariants.{Idle, HoldRequest, CallHeld, RetrieveRequest}
 use Rattle.board.specs.declared.Call.{Call}
-use Rattle.board.specs.declared.OutOfRange.{OutOfRange}
 
 -- "3 Outgoing Call Proceeding, 4 Call Delivered, 7 Call Received, 10 Active"
 abbrev pub state_number : CallState → ℕ
@@ -28,17 +28,13 @@ abbrev pub direction_number : Direction → ℕ
 direction_number Outgoing = 0
 direction_number Incoming = 1
 
--- what an octet of a record stands for, where it stands for a direction or an auxiliary state
-abbrev pub direction_in : ℕ → Result Direction OutOfRange
-direction_in n = cond (eqb n 0) (Ok Outgoing) (cond (eqb n 1) (Ok Incoming) (Err record {}))
+-- the auxiliary state and the direction with a number, where one has it
+abbrev pub auxiliary_with : ℕ → Option AuxiliaryState
+auxiliary_with n =
+    find (λ (a : AuxiliaryState). eqb n (auxiliary_number a)) (Idle ∷ HoldRequest ∷ CallHeld ∷ RetrieveRequest ∷ [])
 
-abbrev pub auxiliary_in : ℕ → Result AuxiliaryState OutOfRange
-auxiliary_in n =
-    cond (eqb n 0) (Ok Idle)
-    (cond (eqb n 1) (Ok HoldRequest)
-    (cond (eqb n 2) (Ok CallHeld)
-    (cond (eqb n 3) (Ok RetrieveRequest)
-    (Err record {}))))
+abbrev pub direction_with : ℕ → Option Direction
+direction_with n = find (λ (d : Direction). eqb n (direction_number d)) (Outgoing ∷ Incoming ∷ [])
 
 abbrev pub same_state : CallState → CallState → Bool
 same_state s t = eqb (state_number s) (state_number t)

@@ -2,7 +2,8 @@
 #![tactic(auto)]
 
 ghost use Rattle.std.specs.Prelude.{◌≡◌};
-ghost use Rattle.board.specs.States.{direction_in, auxiliary_in, valid_reference};
+ghost use Rattle.std.specs.Result.{result_ok};
+ghost use Rattle.board.specs.States.{direction_with, auxiliary_with, valid_reference};
 ghost use Rattle.board.specs.Soundness.{valid_digits, valid_number, valid_options};
 ghost use Rattle.board.specs.Code.Tallies.{counts_in};
 ghost use Rattle.board.specs.Making.{empty_row, empty_board, made_answer, fresh as fresh_board};
@@ -26,7 +27,7 @@ pub enum Direction {
 impl TryFrom<u8> for Direction {
     type Error = OutOfRange;
 
-    ghost try_from_gives = { λ octet result. result ≡ direction_in octet };
+    ghost try_from_gives = { λ octet result. result_ok result ≡ direction_with octet };
 
     fn try_from(octet: u8) -> Result<Self, OutOfRange> {
         match octet {
@@ -58,7 +59,7 @@ pub enum AuxiliaryState {
 impl TryFrom<u8> for AuxiliaryState {
     type Error = OutOfRange;
 
-    ghost try_from_gives = { λ octet result. result ≡ auxiliary_in octet };
+    ghost try_from_gives = { λ octet result. result_ok result ≡ auxiliary_with octet };
 
     fn try_from(octet: u8) -> Result<Self, OutOfRange> {
         match octet {
@@ -86,7 +87,8 @@ pub struct Call {
     pub link: Option<LinkId>,
 }
 
-// The standing of a row: empty, a call with the served user, or joined with the leg of a partner.
+// The standing of a row: empty, a call with the served user, or joined with the leg of a partner. One of three, as the
+// rules name it, where a `Connection`, which is what an entry has, is never empty.
 #[derive(Clone, Copy, Debug)]
 pub enum Standing {
     Empty,
@@ -96,7 +98,7 @@ pub enum Standing {
 
 // The number of a far party: its presentation (0 shown, 1 restricted), and as many digits as the count says.
 // Octets and a count, as a board that is lent may hold any, and soundness judges it.
-#[derive(Clone, Copy, Debug)]
+#[derive(Clone, Copy, Debug, PartialEq, Eq)]
 pub struct PartyNumber {
     pub presentation: u8,
     pub count: u8,
@@ -170,7 +172,7 @@ pub struct BadOptions {
 }
 
 // Legs, joined rows and live LinkIds.
-#[derive(Clone, Copy)]
+#[derive(Clone, Copy, Default)]
 pub struct Tally {
     pub legs: usize,
     pub joined: usize,
@@ -178,7 +180,7 @@ pub struct Tally {
 }
 
 // The three counts of rows.
-#[derive(Clone, Copy, PartialEq, Eq)]
+#[derive(Clone, Copy, Default, PartialEq, Eq)]
 pub struct Counts {
     pub legs: usize,
     pub pairs: usize,

@@ -50,7 +50,7 @@ impl Coding {
     }
 }
 
-// The first n octets, which are those that were written.
+// The first n octets, which are those that were written; as in `ect_cases`.
 fn front(octets: &[u8], n: usize) -> &[u8] {
     octets.get(..n).unwrap_or(octets)
 }

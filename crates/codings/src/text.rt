@@ -3,6 +3,7 @@ use component::{Answer, Operation, Reading, Reject};
 use octets::IntegerOctets;
 use std::fmt;
 
+// `ect_cases` has its own, with the reason.
 #[derive(Clone, Copy)]
 pub struct Hex<'a>(pub &'a [u8]);
 

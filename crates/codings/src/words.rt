@@ -1,6 +1,7 @@
 // Reads the list's words. What was read is written again and held to the list, so that a digit of another case, or a
 // zero too many, shows there.
-// FromStr would be no plainer: these are other crates' types, so each wants a wrapper here and an error in place of None.
+// FromStr would be no plainer: these are other crates' types, so each wants a wrapper here, and an error in place of
+// None.
 use component::{Answer, Operation, Reject};
 use hex::FromHex;
 use octets::{IntegerOctets, InvokeIdentifier, LinkId};

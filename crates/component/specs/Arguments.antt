@@ -1,5 +1,5 @@
--- The arguments of an invoke whose operation is an object identifier of the supplementary service (document 02, slip 5), read by
--- the rules of document 01, "Reading a component".
+-- The arguments of an invoke whose operation is an object identifier of the supplementary service (document 02, slip
+-- 5), read by the rules of document 01, "Reading a component".
 use Rattle.std.specs.Prelude.{ℕ, ◌&&◌, cond, List, [], ◌∷◌, eqb, length, None, Option, Some}
 use Rattle.octets.specs.declared.IntegerOctets.{IntegerOctets}
 use Rattle.octets.specs.Lists.{same_octets}
@@ -21,14 +21,15 @@ abbrev pub behind_identifier : Option IntegerOctets → List ℕ → Option (Lis
 behind_identifier None rest = None
 behind_identifier (Some i) rest = Some rest
 
--- the octets behind the identifier of an invoke: first octet A1, "length octet .. exactly count minus 2", contents whole elements,
--- first element an integer
+-- the octets behind the identifier of an invoke: first octet A1, "length octet .. exactly count minus 2", contents
+-- whole elements, first element an integer
 unfoldable pub identified_in : List ℕ → Option (List ℕ)
 identified_in [] = None
 identified_in (t ∷ []) = None
 identified_in (t ∷ n ∷ s) =
     cond (eqb t 0xA1 && (eqb n (length s) && whole_elements 4 s)) (behind_identifier (integer_in (first_element s)) (rest_of (first_element s))) None
 
--- the octets behind the operation of an invoke of the object identifier with this last number; none where it is no such invoke
+-- the octets behind the operation of an invoke of the object identifier with this last number; none where it is no
+-- such invoke
 unfoldable pub arguments_in : ℕ → List ℕ → Option (List ℕ)
 arguments_in last c = bind_option (behind_operation last) (identified_in c)

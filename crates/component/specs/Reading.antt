@@ -51,7 +51,8 @@ identifier_reading (Some i) rest = identified_reading i rest
 unfoldable pub invoke_reading : List ℕ → Reading
 invoke_reading s = identifier_reading (integer_in (first_element s)) (rest_of (first_element s))
 
--- "Length octet absent or not exactly count minus 2, or contents not whole elements: general problem 2." "depth 5 is bad structure"
+-- "Length octet absent or not exactly count minus 2, or contents not whole elements: general problem 2." "depth 5 is
+-- bad structure"
 abbrev pub framed_reading : List ℕ → Reading
 framed_reading [] = Rejected (Null 2)
 framed_reading (n ∷ s) = cond (eqb n (length s) && whole_elements 4 s) (invoke_reading s) (Rejected (Null 2))

@@ -1,6 +1,6 @@
 // The octets of an answer, put one after the other into a buffer that has room for them.
 ghost use Rattle.std.specs.Prelude.{◌≡◌, ◌≤◌, length};
-ghost use Rattle.filling.specs.Code.Putting.{HasRoom, Put};
+ghost use Rattle.filling.specs.Code.Putting.{PutGivenRoom};
 ghost use Rattle.component.specs.declared.Answer.TheVariants.{LinkIdResult};
 ghost use Rattle.component.specs.Answers.{integer, reject_octets, answer_octets};
 ghost use Rattle.component.specs.Code.Writers.{identified};
@@ -20,20 +20,21 @@ fn integer_len(o: IntegerOctets) -> u8
     }
 }
 
-// The tag, the length, which counts `more` octets to follow, and the invoke identifier. At most 14: the length is an octet.
+// The tag, the length, which counts `more` octets to follow, and the invoke identifier. At most 14: the length is an
+// octet.
 #[tactic(auto, using(crate::proofs::WriterLaws::start))]
 fn put_start(tag: u8, id: IntegerOctets, more: u8, out: &mut Filling)
     requires { more ≤ 14 }
-    ensures { HasRoom (identified tag id more) out.old → Put (identified tag id more) out.old out.new }
+    ensures { PutGivenRoom (identified tag id more) out.old out.new }
 {
     out.put(&[tag, integer_len(id) + more]);
     put_integer(id, out);
 }
 
+// These arms and that of an error differ in their constants; each says the octets of one form as the standard has them.
 #[tactic(auto, using(crate::proofs::WriterLaws::follow))]
-// Its arms and that of an error differ in their constants; each says the octets of one form as the standard has them.
 fn put_reject(reject: Reject, out: &mut Filling)
-    ensures { HasRoom (reject_octets reject) out.old → Put (reject_octets reject) out.old out.new }
+    ensures { PutGivenRoom (reject_octets reject) out.old out.new }
 {
     match reject {
         Reject::Null(problem) => out.put(&[0xa4, 5, 0x05, 0, 0x80, 1, problem]),
@@ -50,8 +51,7 @@ fn put_reject(reject: Reject, out: &mut Filling)
 
 // The result of an EctLinkIdRequest: the identifier, and a sequence of the operation and the LinkId.
 fn put_link_id_result(id: IntegerOctets, link: LinkId, out: &mut Filling)
-    ensures { HasRoom (answer_octets (LinkIdResult id link)) out.old
-        → Put (answer_octets (LinkIdResult id link)) out.old out.new }
+    ensures { PutGivenRoom (answer_octets (LinkIdResult id link)) out.old out.new }
 {
     let o = IntegerOctets::from(Integer::from(link));
     let len = 8 + integer_len(o);
@@ -63,7 +63,7 @@ fn put_link_id_result(id: IntegerOctets, link: LinkId, out: &mut Filling)
 
 #[tactic(auto, using(crate::proofs::WriterLaws::follow), unfolding(crate::specs::Answers::answer_octets))]
 pub fn put_answer(answer: Answer, out: &mut Filling)
-    ensures { HasRoom (answer_octets answer) out.old → Put (answer_octets answer) out.old out.new }
+    ensures { PutGivenRoom (answer_octets answer) out.old out.new }
 {
     match answer {
         Answer::Rejected(r) => put_reject(r, out),

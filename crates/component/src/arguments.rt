@@ -2,8 +2,7 @@
 ghost use Rattle.std.specs.Prelude.{◌≡◌, option_copied};
 ghost use Rattle.component.specs.Arguments.{identified_in, arguments_in};
 
-use crate::invoke::is_ect_object;
-use elements::are_elements;
+use crate::invoke::{contents, is_ect_object};
 use elements::values::{read_integer, read_object};
 
 // The octets behind the identifier of an invoke.
@@ -11,16 +10,10 @@ use elements::values::{read_integer, read_object};
 fn read_identified(component: &[u8]) -> Option<&[u8]>
     ensures { option_copied result ≡ identified_in component.now }
 {
-    let [0xa1, len, contents @ ..] = component else {
+    let [0xa1, framed @ ..] = component else {
         return None;
     };
-    if usize::from(*len) != contents.len() {
-        return None;
-    }
-    if !are_elements(contents, 4) {
-        return None;
-    }
-    let (_, rest) = read_integer(contents)?;
+    let (_, rest) = read_integer(contents(framed)?)?;
     Some(rest)
 }
 

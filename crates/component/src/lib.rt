@@ -90,13 +90,16 @@ pub fn read(component: &[u8]) -> Reading
 {
     match component {
         [0xa2..=0xa4, ..] => Reading::Ignored,
-        [0xa1, framed @ ..] => invoke::read_framed(framed),
+        [0xa1, framed @ ..] => match invoke::read_framed(framed) {
+            Ok((id, operation)) => Reading::Invoked(id, operation),
+            Err(reject) => Reading::Rejected(reject),
+        },
         _ => Reading::Rejected(Reject::Null(UNRECOGNIZED_COMPONENT)),
     }
 }
 
 // The octets of an answer.
-#[tactic(auto, using(crate::proofs::WriterLaws::put, crate::proofs::WriterLaws::made, crate::proofs::Length::answer_length))]
+#[tactic(auto, using(crate::proofs::WriterLaws::encoding))]
 pub fn encode(answer: Answer) -> Component
     ensures { result ≡ encoded answer }
 {

@@ -27,99 +27,104 @@ fn case(rt: &impl Print, words: &str, component: &[u8]) -> io::Result<()> {
     println!(rt; "{words}: {}", Said(read_inform(component)))
 }
 
-// Every form, and the longest number.
-fn right(rt: &impl Print) -> io::Result<()> {
-    let cases: [(&str, &[u8]); 5] = [
-        (
-            "active, 21",
-            b"\xa1\x16\x02\x01\x05\x06\x06\x04\x00\x82\x71\x01\x05\x30\x09\x0a\x01\x01\xa0\x04\x80\x0221",
-        ),
-        (
-            "active, restricted",
-            b"\xa1\x12\x02\x01\x05\x06\x06\x04\x00\x82\x71\x01\x05\x30\x05\x0a\x01\x01\x81\x00",
-        ),
-        (
-            "active, no number",
-            b"\xa1\x10\x02\x01\x05\x06\x06\x04\x00\x82\x71\x01\x05\x30\x03\x0a\x01\x01",
-        ),
-        (
-            "alerting, 21",
-            b"\xa1\x16\x02\x01\x05\x06\x06\x04\x00\x82\x71\x01\x05\x30\x09\x0a\x01\x00\xa0\x04\x80\x0221",
-        ),
-        (
-            "fifteen digits",
-            b"\xa1\x23\x02\x01\x05\x06\x06\x04\x00\x82\x71\x01\x05\x30\x16\x0a\x01\x01\xa0\x11\x80\x0f123456789012345",
-        ),
-    ];
+// As in `ect_cases`, with the reason.
+fn cases(rt: &impl Print, cases: &[(&str, &[u8])]) -> io::Result<()> {
     for (words, component) in cases {
         case(rt, words, component)?;
     }
     Ok(())
+}
+
+// Every form, and the longest number.
+fn right(rt: &impl Print) -> io::Result<()> {
+    cases(
+        rt,
+        &[
+            (
+                "active, 21",
+                b"\xa1\x16\x02\x01\x05\x06\x06\x04\x00\x82\x71\x01\x05\x30\x09\x0a\x01\x01\xa0\x04\x80\x0221",
+            ),
+            (
+                "active, restricted",
+                b"\xa1\x12\x02\x01\x05\x06\x06\x04\x00\x82\x71\x01\x05\x30\x05\x0a\x01\x01\x81\x00",
+            ),
+            (
+                "active, no number",
+                b"\xa1\x10\x02\x01\x05\x06\x06\x04\x00\x82\x71\x01\x05\x30\x03\x0a\x01\x01",
+            ),
+            (
+                "alerting, 21",
+                b"\xa1\x16\x02\x01\x05\x06\x06\x04\x00\x82\x71\x01\x05\x30\x09\x0a\x01\x00\xa0\x04\x80\x0221",
+            ),
+            (
+                "fifteen digits",
+                b"\xa1\x23\x02\x01\x05\x06\x06\x04\x00\x82\x71\x01\x05\x30\x16\x0a\x01\x01\xa0\x11\x80\x0f123456789012345",
+            ),
+        ],
+    )
 }
 
 // Numbers that have neither form.
 fn wrong_numbers(rt: &impl Print) -> io::Result<()> {
-    let cases: [(&str, &[u8]); 7] = [
-        (
-            "sixteen digits",
-            b"\xa1\x24\x02\x01\x05\x06\x06\x04\x00\x82\x71\x01\x05\x30\x17\x0a\x01\x01\xa0\x12\x80\x101234567890123456",
-        ),
-        (
-            "no digits",
-            b"\xa1\x14\x02\x01\x05\x06\x06\x04\x00\x82\x71\x01\x05\x30\x07\x0a\x01\x01\xa0\x02\x80\x00",
-        ),
-        (
-            "a letter",
-            b"\xa1\x16\x02\x01\x05\x06\x06\x04\x00\x82\x71\x01\x05\x30\x09\x0a\x01\x01\xa0\x04\x80\x022A",
-        ),
-        (
-            "81 with an octet",
-            b"\xa1\x13\x02\x01\x05\x06\x06\x04\x00\x82\x71\x01\x05\x30\x06\x0a\x01\x01\x81\x01\x00",
-        ),
-        (
-            "digits without their A0",
-            b"\xa1\x14\x02\x01\x05\x06\x06\x04\x00\x82\x71\x01\x05\x30\x07\x0a\x01\x01\x80\x0221",
-        ),
-        (
-            "an element behind the number",
-            b"\xa1\x14\x02\x01\x05\x06\x06\x04\x00\x82\x71\x01\x05\x30\x07\x0a\x01\x01\x81\x00\x05\x00",
-        ),
-        (
-            "alerting, a letter",
-            b"\xa1\x16\x02\x01\x05\x06\x06\x04\x00\x82\x71\x01\x05\x30\x09\x0a\x01\x00\xa0\x04\x80\x022A",
-        ),
-    ];
-    for (words, component) in cases {
-        case(rt, words, component)?;
-    }
-    Ok(())
+    cases(
+        rt,
+        &[
+            (
+                "sixteen digits",
+                b"\xa1\x24\x02\x01\x05\x06\x06\x04\x00\x82\x71\x01\x05\x30\x17\x0a\x01\x01\xa0\x12\x80\x101234567890123456",
+            ),
+            (
+                "no digits",
+                b"\xa1\x14\x02\x01\x05\x06\x06\x04\x00\x82\x71\x01\x05\x30\x07\x0a\x01\x01\xa0\x02\x80\x00",
+            ),
+            (
+                "a letter",
+                b"\xa1\x16\x02\x01\x05\x06\x06\x04\x00\x82\x71\x01\x05\x30\x09\x0a\x01\x01\xa0\x04\x80\x022A",
+            ),
+            (
+                "81 with an octet",
+                b"\xa1\x13\x02\x01\x05\x06\x06\x04\x00\x82\x71\x01\x05\x30\x06\x0a\x01\x01\x81\x01\x00",
+            ),
+            (
+                "digits without their A0",
+                b"\xa1\x14\x02\x01\x05\x06\x06\x04\x00\x82\x71\x01\x05\x30\x07\x0a\x01\x01\x80\x0221",
+            ),
+            (
+                "an element behind the number",
+                b"\xa1\x14\x02\x01\x05\x06\x06\x04\x00\x82\x71\x01\x05\x30\x07\x0a\x01\x01\x81\x00\x05\x00",
+            ),
+            (
+                "alerting, a letter",
+                b"\xa1\x16\x02\x01\x05\x06\x06\x04\x00\x82\x71\x01\x05\x30\x09\x0a\x01\x00\xa0\x04\x80\x022A",
+            ),
+        ],
+    )
 }
 
 // What is no such invoke whatever its number.
 fn no_inform(rt: &impl Print) -> io::Result<()> {
-    let cases: [(&str, &[u8]); 5] = [
-        (
-            "an element behind the argument",
-            b"\xa1\x12\x02\x01\x05\x06\x06\x04\x00\x82\x71\x01\x05\x30\x03\x0a\x01\x01\x05\x00",
-        ),
-        (
-            "indication 02",
-            b"\xa1\x10\x02\x01\x05\x06\x06\x04\x00\x82\x71\x01\x05\x30\x03\x0a\x01\x02",
-        ),
-        (
-            "padded identifier",
-            b"\xa1\x11\x02\x02\x00\x05\x06\x06\x04\x00\x82\x71\x01\x05\x30\x03\x0a\x01\x01",
-        ),
-        (
-            "object identifier ending 04",
-            b"\xa1\x10\x02\x01\x05\x06\x06\x04\x00\x82\x71\x01\x04\x30\x03\x0a\x01\x01",
-        ),
-        ("no octets", b""),
-    ];
-    for (words, component) in cases {
-        case(rt, words, component)?;
-    }
-    Ok(())
+    cases(
+        rt,
+        &[
+            (
+                "an element behind the argument",
+                b"\xa1\x12\x02\x01\x05\x06\x06\x04\x00\x82\x71\x01\x05\x30\x03\x0a\x01\x01\x05\x00",
+            ),
+            (
+                "indication 02",
+                b"\xa1\x10\x02\x01\x05\x06\x06\x04\x00\x82\x71\x01\x05\x30\x03\x0a\x01\x02",
+            ),
+            (
+                "padded identifier",
+                b"\xa1\x11\x02\x02\x00\x05\x06\x06\x04\x00\x82\x71\x01\x05\x30\x03\x0a\x01\x01",
+            ),
+            (
+                "object identifier ending 04",
+                b"\xa1\x10\x02\x01\x05\x06\x06\x04\x00\x82\x71\x01\x04\x30\x03\x0a\x01\x01",
+            ),
+            ("no octets", b""),
+        ],
+    )
 }
 
 pub fn forms(rt: &impl Print) -> io::Result<()> {

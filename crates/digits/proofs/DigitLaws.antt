@@ -3,21 +3,17 @@ use Prim.Native.Nat.{min, ℕ, zero, suc, ◌≤◌, ◌<◌}
 use native.Mathlib.Omega.{arith}
 use mathlib.Core.Path.{◌≡◌, refl, sym, ap}
 use mathlib.Core.List.{List, [], ◌∷◌, ◌++◌}
+use Rattle.std.proofs.lemmas.List.{take-replicate}
 use lib.ListN.{length, take, drop, replicate}
 use Rattle.digits.specs.Digits.{in_fifteen}
 
 -- ---- octets in front of zeros
--- of as many zeros or more, the first n
-zeros_front : (n m : ℕ) → n ≤ m → take n (replicate {A = ℕ} m 0) ≡ replicate n 0
-zeros_front zero m h = refl
-zeros_front (suc n) zero h = absurd (omega arith)
-zeros_front (suc n) (suc m) h = ap (λ (r : List ℕ). 0 ∷ r) (zeros_front n m (omega arith))
 
 -- octets copied over the front of zeros: all of them, or as many as there are zeros
 copied : (n m k : ℕ) (s : List ℕ) → n ≤ m → m ≤ k → n ≤ length s → (n < m → length s ≤ n) →
     take n s ++ drop n (replicate m 0) ≡ take m (s ++ replicate k 0)
 copied zero zero k s h l i j = refl
-copied zero (suc m) k [] h l i j = sym (zeros_front (suc m) k l)
+copied zero (suc m) k [] h l i j = sym (take-replicate (suc m) k 0 l)
 copied zero (suc m) k (x ∷ s) h l i j = absurd (let e = j (omega arith) in omega arith)
 copied (suc n) m k [] h l i j = absurd (omega arith)
 copied (suc n) zero k (x ∷ s) h l i j = absurd (omega arith)

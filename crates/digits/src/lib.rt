@@ -19,7 +19,8 @@ pub fn all_zeros(s: &[u8]) -> bool
     s.iter().all(|octet| *octet == 0)
 }
 
-// The octets in front of zeros, 15 in all, as digits stand in rows and records: for a number read from a component.
+// The octets in front of zeros, 15 in all, as digits stand in rows and records: for a number read from a
+// component. No const parameter: no field of digits has another length.
 pub fn in_fifteen(s: &[u8]) -> [u8; 15]
     ensures { result ≡ in_fifteen s.now }
 {

@@ -10,7 +10,7 @@ use lib.ListN.{length}
 use Rattle.octets.specs.Buffers.{front_written}
 use Rattle.board.specs.declared.Board.{Board}
 use Rattle.ect.specs.Code.Testing.{decision_tested, stepped}
-use Rattle.ect.specs.Contract.{OutcomeOf, StepsTested}
+use Rattle.ect.specs.Contract.{OutcomeOf}
 use Rattle.effects.specs.Code.Effects.{EffectOf, effect, effect_by, change_in, board_by}
 use Rattle.effects.proofs.EffectLaws.{board_is}
 use Rattle.replies.specs.Code.Writing.{rendered, written}
@@ -69,21 +69,21 @@ module _ (b : Board) where
       }
 
 module _ (tested : Bool) (b : Board) (os before : List ℕ) where
-  pub step_refused : {r : Result Effect Refusal} {c : Refusal} → EffectOf r b (decision_tested (length before) tested (decision b os)) → r ≡ Err c → StepsTested tested b os before (stepped (Err c) b) before
+  pub step_refused : {r : Result Effect Refusal} {c : Refusal} → EffectOf r b (decision_tested (length before) tested (decision b os)) → r ≡ Err c → OutcomeOf (step_tested tested b os (length before)) before (stepped (Err c) b) before
   unfolding board_after rows_after candidate_after replies
   step_refused {c = c} k e =
       outcome_is (by_decision tested b os (length before) ∙ ap (done b) (refuses b (decision_tested (length before) tested (decision b os)) (sym e ∙ k.is)))
       (outcome_refused c b before)
 
-  pub step_done : {r : Result Effect Refusal} {e : Effect} → EffectOf r b (decision_tested (length before) tested (decision b os)) → r ≡ Ok e → {os' : List ℕ} {n : ℕ} {b' : Board} {after : List ℕ} →
-      os' ≡ written e.out → n ≡ length os' → after ≡ front_written os' before → b' ≡ board_by e.change b → StepsTested tested b os before (stepped (Ok n) b') after
-  step_done k i x m q w =
+  pub step_done : {r : Result Effect Refusal} {e : Effect} → EffectOf r b (decision_tested (length before) tested (decision b os)) → r ≡ Ok e → {os' : List ℕ} {n : ℕ} {after : List ℕ} →
+      os' ≡ written e.out → n ≡ length os' → after ≡ front_written os' before → OutcomeOf (step_tested tested b os (length before)) before (stepped (Ok n) (board_by e.change b)) after
+  step_done k i x m q =
       let d = accepts b (decision_tested (length before) tested (decision b os)) (sym i ∙ k.is) in
       let y = x ∙ d.octets_are in
       outcome_is (by_decision tested b os (length before))
       (record {
         answer = sym d.returned;
         count = m ∙ ap length y;
-        board = w ∙ d.board;
+        board = d.board;
         buffer = q ∙ ap (λ (l : List ℕ). front_written l before) y;
       })

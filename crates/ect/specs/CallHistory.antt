@@ -1,4 +1,5 @@
--- Whole lists of calls of `step` on a board that begins fresh: demand 3 of the values that the code returned (document 01, "The book").
+-- Whole lists of calls of `step` on a board that begins fresh: demand 3 of the values that the code returned
+-- (document 01, "The book").
 use Rattle.std.specs.Prelude.{ℕ, ◌≡◌, ◌↔◌, true, not, List, [], ◌∷◌, ◌++◌, map, eqb, T, length, take, None, Some}
 use Rattle.octets.specs.Lists.{all, distinct}
 use Rattle.board.specs.declared.Board.{Board}
@@ -7,12 +8,14 @@ use Rattle.board.specs.declared.Connection.TheVariants.{WithUser}
 use Rattle.board.specs.Entries.{taken}
 use Rattle.board.specs.Soundness.{sound, same_link_ids}
 use Rattle.rules.specs.Book.{Book}
-use Rattle.rules.specs.History.{Event, book_at, book_returns, history, accepted, Lives, EachSince, transfer_of, on_board, HasRow, Partners, Agree}
+use Rattle.rules.specs.History.{Event, book_at, book_returns, history, accepted, Lives, EachSince, transfer_of}
+use Rattle.rules.specs.History.{on_board, HasRow, Partners, Agree}
 use Rattle.rules.specs.Replies.{error_octets}
 use Rattle.ect.specs.Contract.{answer_number, answer_count}
 use Rattle.ect.specs.declared.Stepped.{Stepped}
 
--- a call of `step`: the event's octets, the buffer as it was lent, what was returned, and the buffer as it lies there afterwards
+-- a call of `step`: the event's octets, the buffer as it was lent, what was returned, and the buffer as it lies there
+-- afterwards
 pub record StepCall : Type 0 where
   pub event : List ℕ
   pub before : List ℕ
@@ -51,9 +54,11 @@ pub record CallHistory (b : Board) (k : Book) (calls : List StepCall) : Type 0 w
   pub history_book : book_at k (history k (events calls)) ≡ book_at k (events calls)
   -- "at the end of the list board and book agree"
   pub agree : Agree (last_board b calls) (book_at k (events calls))
-  -- "a far party is on the board exactly when the history opened it and hasn't since ended it or the party it was joined with at that moment"
+  -- "a far party is on the board exactly when the history opened it and hasn't since ended it or the party it was
+  -- joined with at that moment"
   pub presence : (l : ℕ) → T (on_board (last_board b calls) l) ↔ Lives k (history k (events calls)) l
-  -- "it has the partner, and is that one's partner, to whom a transfer has joined it since, or else one call with the served user"
+  -- "it has the partner, and is that one's partner, to whom a transfer has joined it since, or else one call with the
+  -- served user"
   pub partner : (l : ℕ) (v : Lives k (history k (events calls)) l) →
       EachSince v (λ k' e. (m : ℕ) → transfer_of k' e l ≡ Some m → Partners (last_board b calls) l m)
       × (EachSince v (λ k' e. transfer_of k' e l ≡ None) → (c : Call) × HasRow (last_board b calls) l (WithUser c))

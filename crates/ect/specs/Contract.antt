@@ -18,7 +18,8 @@ abbrev pub answer_count : Result ℕ Refusal → ℕ
 answer_count (Ok n) = n
 answer_count (Err c) = 0
 
--- what the exchange program gets of an outcome: the answer, the board, and the buffer, which "keeps what lies beyond the octets written"
+-- what the exchange program gets of an outcome: the answer, the board, and the buffer, which "keeps what lies beyond
+-- the octets written"
 pub record OutcomeOf (o : Outcome) (before : List ℕ) (r : Stepped) (after : List ℕ) : Type 0 where
   pub answer : answer_number r.answer ≡ o.returned
   pub count : answer_count r.answer ≡ length (octets o.replies)

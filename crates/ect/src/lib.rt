@@ -13,7 +13,8 @@ use effects::{ChangeKind, Effect, done, effect_of};
 use events::Refusal;
 use soundness::sound;
 
-// The answer to an event, the number of octets written where it is accepted, and the board.
+// The answer to an event, the number of octets written where it is accepted, and the board. A number, as the buffer is
+// the caller's.
 #[derive(Clone, Copy)]
 pub struct Stepped {
     pub answer: Result<usize, Refusal>,
@@ -53,7 +54,8 @@ fn answered(
     event: &[u8],
     reply: &mut [u8],
 ) -> (Result<usize, Refusal>, Option<ChangeKind>)
-    ensures { StepsTested is_sound board.now event.now reply.old (stepped result.0 (board_by result.1 board.now)) reply.new }
+    ensures { StepsTested is_sound board.now event.now reply.old
+        (stepped result.0 (board_by result.1 board.now)) reply.new }
 {
     match accepted(board, is_sound, event, reply.len()) {
         Ok(effect) => (

@@ -33,7 +33,7 @@ pub fn written_and_read(rt: &impl Print) -> io::Result<()> {
     case(rt, Operation::EctLinkIdRequest, InvokeIdentifier(5))
 }
 
-// Writes an EctExecute, and returns the number that the answer stands for.
+// Writes an EctExecute, and returns the number that the answer stands for, which is what is printed.
 fn number_of_write(buffer: &mut [u8]) -> u8 {
     match write_invoke(Operation::EctExecute, InvokeIdentifier(5), buffer) {
         Ok(_) => 0,

@@ -27,6 +27,14 @@ fn run(rt: &impl Print, board: Board, words: &str, event: &[u8]) -> io::Result<B
     report(rt, words, ect::step(board, event, &mut reply))
 }
 
+// Events on a board, where `subaddress` has components: a closure for the line that differs would be no plainer.
+fn run_each(rt: &impl Print, board: Board, cases: &[(&str, &[u8])]) -> io::Result<()> {
+    for (words, event) in cases {
+        run(rt, board, words, event)?;
+    }
+    Ok(())
+}
+
 // An outgoing Open of a reference and a leg.
 fn outgoing(reference: u8, leg: u8) -> [u8; 25] {
     open(reference, leg, Direction::Outgoing, *b"21")
@@ -58,17 +66,17 @@ fn before_the_board(rt: &impl Print, fresh: Board) -> io::Result<()> {
     };
     let bad = Board { options, ..fresh };
     run(rt, bad, "board that is not sound", &event)?;
-    let cases: [(&str, &[u8]); 5] = [
-        ("empty record", b""),
-        ("record one octet short", b"\x02\x00\x01"),
-        ("kind 10", b"\x0a"),
-        ("Progress to state 7", b"\x02\x00\x01\x07"),
-        ("reference 8000", b"\x02\x80\x00\x0a"),
-    ];
-    for (words, event) in cases {
-        run(rt, fresh, words, event)?;
-    }
-    Ok(())
+    run_each(
+        rt,
+        fresh,
+        &[
+            ("empty record", b""),
+            ("record one octet short", b"\x02\x00\x01"),
+            ("kind 10", b"\x0a"),
+            ("Progress to state 7", b"\x02\x00\x01\x07"),
+            ("reference 8000", b"\x02\x80\x00\x0a"),
+        ],
+    )
 }
 
 // The refusals that turn on the board, which has one leg or 64.
@@ -77,21 +85,21 @@ fn on_the_board(rt: &impl Print, fresh: Board) -> io::Result<()> {
     run(rt, one, "Open of a leg on the board", &outgoing(2, 1))?;
     run(rt, one, "Open of a reference in use", &outgoing(1, 2))?;
     run(rt, full(fresh), "Open with 64 legs", &outgoing(80, 80))?;
-    let cases: [(&str, &[u8]); 9] = [
-        ("Progress of no call", b"\x02\x00\x02\x0a"),
-        ("Hold of no call", b"\x03\x00\x02\x01"),
-        ("Release of no leg", b"\x04\x00\x00\x00\x02"),
-        ("Answer of no leg", b"\x06\x00\x00\x00\x02"),
-        ("Hold in state 3", b"\x03\x00\x01\x01"),
-        ("Answer of a served call", b"\x06\x00\x00\x00\x01"),
-        ("Leg facility of no leg", &leg_facility(2, 3)),
-        ("Leg facility of a served call", &leg_facility(1, 3)),
-        ("Release", b"\x04\x00\x00\x00\x01"),
-    ];
-    for (words, event) in cases {
-        run(rt, one, words, event)?;
-    }
-    Ok(())
+    run_each(
+        rt,
+        one,
+        &[
+            ("Progress of no call", b"\x02\x00\x02\x0a"),
+            ("Hold of no call", b"\x03\x00\x02\x01"),
+            ("Release of no leg", b"\x04\x00\x00\x00\x02"),
+            ("Answer of no leg", b"\x06\x00\x00\x00\x02"),
+            ("Hold in state 3", b"\x03\x00\x01\x01"),
+            ("Answer of a served call", b"\x06\x00\x00\x00\x01"),
+            ("Leg facility of no leg", &leg_facility(2, 3)),
+            ("Leg facility of a served call", &leg_facility(1, 3)),
+            ("Release", b"\x04\x00\x00\x00\x01"),
+        ],
+    )
 }
 
 fn main(rt: HostRuntime) -> io::Result<()> {

@@ -4,12 +4,13 @@ use events::Refusal;
 use octets::{Integer, InvokeIdentifier};
 use std::fmt;
 
-// The first n octets, which are those that were written. `codings` has its own, and its `Hex`: a crate for the ten
-// lines would be more.
+// The first n octets, which are those that were written.
 pub fn front(octets: &[u8], n: usize) -> &[u8] {
     octets.get(..n).unwrap_or(octets)
 }
 
+// `codings` has `Hex` and `front` of its own. No contract says what a Display that is written by hand prints, and no
+// function of a library is silent here: so they stay with the programs.
 #[derive(Clone, Copy)]
 pub struct Hex<'a>(pub &'a [u8]);
 

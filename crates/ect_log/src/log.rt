@@ -6,7 +6,8 @@ use std::io::{self, Read};
 // How many octets are read or written at once.
 pub const PIECE: usize = 65536;
 
-// The octets of the log that are read and not yet played: they lie between two places of the buffer.
+// The octets of the log that are read and not yet played: they lie between two places of the buffer. Its size is fixed,
+// so that a log of any length takes the same memory.
 #[derive(Drop)]
 pub struct Log {
     octets: [u8; PIECE],

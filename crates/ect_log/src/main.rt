@@ -52,7 +52,8 @@ fn write_line(rt: &impl Print, line: Option<usize>, text: &[u8]) -> io::Result<(
     }
 }
 
-// Plays a piece of the log. What is read lies in the piece, and what is written in the buffer.
+// Plays a piece of the log. What is read lies in the piece, and what is written in the buffer. Board and number stay
+// apart, as in `play`.
 fn play_piece(board: Board, number: u64, piece: &[u8], is_last: bool, output: &mut [u8]) -> Played
     ensures { (result.read ≤ length piece.now) × (result.written ≤ length output.new) }
 {
@@ -88,15 +89,13 @@ fn play_log(
 // The counts of a board that the component returned. Such a board is sound. They go one by one, as log_text knows no
 // board.
 fn write_end(rt: &impl Print, board: Board, output: &mut [u8]) -> io::Result<()> {
-    let line = match count(board) {
-        Ok(counts) => log_text::end_line(
-            counts.legs as u64,
-            counts.pairs as u64,
-            counts.links as u64,
-            output,
-        ),
-        Err(_) => log_text::end_line(0, 0, 0, output),
-    };
+    let counts = count(board).unwrap_or_default();
+    let line = log_text::end_line(
+        counts.legs as u64,
+        counts.pairs as u64,
+        counts.links as u64,
+        output,
+    );
     write_line(rt, line, output)
 }
 

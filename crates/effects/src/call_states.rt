@@ -17,7 +17,7 @@ fn may_progress(from: CallState, to: CallState) -> bool
         CallState::OutgoingCallProceeding => {
             matches!(to, CallState::CallDelivered | CallState::Active)
         }
-        CallState::CallDelivered | CallState::CallReceived => matches!(to, CallState::Active),
+        CallState::CallDelivered | CallState::CallReceived => to == CallState::Active,
         CallState::Active => false,
     }
 }
@@ -40,14 +40,15 @@ fn may_hold(from: AuxiliaryState, to: AuxiliaryState) -> bool
     ensures { result ≡ may_hold from to }
 {
     match from {
-        AuxiliaryState::Idle => matches!(to, AuxiliaryState::HoldRequest),
+        AuxiliaryState::Idle => to == AuxiliaryState::HoldRequest,
         AuxiliaryState::HoldRequest | AuxiliaryState::RetrieveRequest => {
             matches!(to, AuxiliaryState::Idle | AuxiliaryState::CallHeld)
         }
-        AuxiliaryState::CallHeld => matches!(to, AuxiliaryState::RetrieveRequest),
+        AuxiliaryState::CallHeld => to == AuxiliaryState::RetrieveRequest,
     }
 }
 
+// Beside `progress`: each has a test that is a rule of its own, and shares only the refusals.
 pub fn hold(
     found: Option<Party>,
     reference: CallReference,

@@ -9,7 +9,8 @@ use events::Refusal;
 use replies::pass_on;
 use subaddresses::is_subaddress_transfer;
 
-// What it requires is given by the reader's equation: a record of another count is refused before.
+// The bound is a clause and no test: the reader's equation gives it, as a record of another count is refused before,
+// and a test would have no answer of its own.
 pub fn leg_facility(found: Option<Entry>, count: u8, component: [u8; 64]) -> Result<Effect, Refusal>
     requires { count ≤ 64 }
     ensures { EffectAnywhere result (decide_leg_facility count component found) }

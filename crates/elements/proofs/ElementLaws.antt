@@ -121,3 +121,8 @@ stepped zero s p h = absurd (p refl)
 stepped (suc d) s p h =
     let k : suc d - 1 ≡ d = omega arith in
     rw k (step d s (some_left s h) ∙ well_followed (whole_elements d) (whole_elements (suc d)) (first_element s))
+
+-- for a function that reads one element, and for one that reads all of them
+pub ruleset one = (short, front, whole)
+
+pub ruleset nested = (none_left, too_deep, stepped)

@@ -1,5 +1,6 @@
 -- Elements (document 01, "Reading a component").
-use Rattle.std.specs.Prelude.{ℕ, zero, suc, ◌/◌, ◌%◌, Bool, true, false, not, ◌&&◌, ◌||◌, cond, List, [], ◌∷◌, eqb, leb, ltb, length, take, drop}
+use Rattle.std.specs.Prelude.{ℕ, zero, suc, ◌/◌, ◌%◌, Bool, true, false, not, ◌&&◌, ◌||◌, cond, List, [], ◌∷◌, eqb}
+use Rattle.std.specs.Prelude.{leb, ltb, length, take, drop}
 
 -- the first element of some octets: its tag, its contents, and the octets after it
 pub data Element : Type 0 where
@@ -39,7 +40,8 @@ siblings inner zero s = no_octets s
 siblings inner (suc count) [] = true
 siblings inner (suc count) (x ∷ s) = well_formed inner (siblings inner count) (first_element (x ∷ s))
 
--- whole elements that nest at most `depth` deep, these counted; each takes an octet or more, so there are at most as many as octets
+-- whole elements that nest at most `depth` deep, these counted; each takes an octet or more, so there are at most as
+-- many as octets
 unfoldable pub whole_elements : ℕ → List ℕ → Bool
 whole_elements zero s = no_octets s
 whole_elements (suc depth) s = siblings (whole_elements depth) (length s) s

@@ -17,7 +17,8 @@ abbrev pub integer_octets_in : Element → Option IntegerOctets
 integer_octets_in Bad = None
 integer_octets_in (Whole tag contents rest) = cond (eqb tag 2) (one_or_two contents) None
 
--- "a padded identifier or operation counts as not being of the required form, and a padded LinkId likewise" (document 02, slip 4)
+-- "a padded identifier or operation counts as not being of the required form, and a padded LinkId likewise" (document
+-- 02, slip 4)
 abbrev pub unless_padded : Option IntegerOctets → Option IntegerOctets
 unless_padded None = None
 unless_padded (Some o) = cond (padded o) None (Some o)

@@ -17,7 +17,7 @@ pub struct FirstElement<'a> {
 }
 
 // Leaves the contents unread.
-#[tactic(auto, using(crate::proofs::ElementLaws::short, crate::proofs::ElementLaws::front, crate::proofs::ElementLaws::whole))]
+#[tactic(auto, using(crate::proofs::ElementLaws::one))]
 pub fn first_element(s: &[u8]) -> Option<FirstElement<'_>>
     ensures { element_of result ≡ first_element s.now }
 {
@@ -60,7 +60,7 @@ pub fn read_element(s: &[u8], depth: u8) -> Option<FirstElement<'_>>
 
 // Whether these are elements up to the end that nest at most `depth` deep, these counted. None are left at depth 0.
 #[cycle(read_element_are_elements)]
-#[tactic(auto, using(crate::proofs::ElementLaws::none_left, crate::proofs::ElementLaws::too_deep, crate::proofs::ElementLaws::stepped))]
+#[tactic(auto, using(crate::proofs::ElementLaws::nested))]
 pub fn are_elements(s: &[u8], depth: u8) -> bool
     ensures { result ≡ whole_elements depth s.now }
 {

@@ -1,14 +1,13 @@
 -- Event records: what a record asks for, or why it is no record (document 01, "Event records", and its checks 3 to 5).
-use Rattle.std.specs.Prelude.{ℕ, Bool, true, ◌&&◌, cond, List, [], ◌∷◌, eqb, leb, length, take, drop, get_or}
+use Rattle.std.specs.Prelude.{ℕ, Bool, true, ◌&&◌, cond, List, [], ◌∷◌, eqb, leb, length, take, drop, get_or, None}
+use Rattle.std.specs.Prelude.{Option, Some}
 use Rattle.octets.specs.Numbers.{number_of}
 use Rattle.board.specs.declared.Direction.{Direction}
-use Rattle.board.specs.declared.Direction.TheVariants.{Outgoing, Incoming}
 use Rattle.board.specs.declared.CallState.{CallState}
 use Rattle.board.specs.declared.CallState.TheVariants.{CallDelivered, Active}
 use Rattle.board.specs.declared.AuxiliaryState.{AuxiliaryState}
-use Rattle.board.specs.declared.AuxiliaryState.TheVariants.{Idle, HoldRequest, CallHeld, RetrieveRequest}
 use Rattle.board.specs.declared.PartyNumber.{PartyNumber}
-use Rattle.board.specs.States.{valid_reference}
+use Rattle.board.specs.States.{direction_with, auxiliary_with, valid_reference}
 use Rattle.board.specs.Soundness.{zeros, valid_number}
 use Rattle.events.specs.declared.Refusal.{Refusal}
 use Rattle.events.specs.declared.Refusal.TheVariants.{WrongLength, UnknownKind, FieldOutOfRange}
@@ -30,32 +29,23 @@ pub data Request : Type 0 where
 abbrev pub field : ℕ → ℕ → List ℕ → ℕ
 field i n body = number_of (take n (drop i body))
 
--- "direction 1 (0 outgoing, 1 incoming)"
-abbrev pub direction_of : ℕ → Direction
-direction_of n = cond (eqb n 0) Outgoing Incoming
-
 -- "presentation 1, digit count 1, 15 octets", which end the body
 abbrev pub number_in : List ℕ → PartyNumber
 number_in b = record { presentation = get_or b 7 0; count = get_or b 8 0; digits = drop 9 b }
 
--- "reference 2, leg 4, direction 1", then the number
-abbrev pub open_body : List ℕ → Request
-open_body b =
-    cond (leb (get_or b 6 0) 1)
-    (Open (field 0 2 b) (field 2 4 b) (direction_of (get_or b 6 0)) (number_in b))
-    (Malformed FieldOutOfRange)
+-- "reference 2, leg 4, direction 1 (0 outgoing, 1 incoming)", then the number
+abbrev pub open_body : List ℕ → Option Direction → Request
+open_body b None = Malformed FieldOutOfRange
+open_body b (Some d) = Open (field 0 2 b) (field 2 4 b) d (number_in b)
 
 -- "reference 2, state 1: 4 or 10"
 abbrev pub progress_body : ℕ → ℕ → Request
 progress_body r s = cond (eqb s 4) (Progress r CallDelivered) (cond (eqb s 10) (Progress r Active) (Malformed FieldOutOfRange))
 
 -- "reference 2, auxiliary 1: 0 to 3"
-abbrev pub hold_body : ℕ → ℕ → Request
-hold_body r a =
-    cond (eqb a 0) (Hold r Idle)
-    (cond (eqb a 1) (Hold r HoldRequest)
-    (cond (eqb a 2) (Hold r CallHeld)
-    (cond (eqb a 3) (Hold r RetrieveRequest) (Malformed FieldOutOfRange))))
+abbrev pub hold_body : ℕ → Option AuxiliaryState → Request
+hold_body r None = Malformed FieldOutOfRange
+hold_body r (Some a) = Hold r a
 
 -- "count 1 (1 to 32), component, then zeros", and later 1 to 64
 abbrev pub valid_component : ℕ → ℕ → List ℕ → Bool
@@ -91,9 +81,9 @@ sized k b q = cond (eqb (length b) (body_length k)) (ranged q) (Malformed WrongL
 -- "4: kind not listed (judged before length)"
 abbrev pub of_kind : ℕ → List ℕ → Request
 of_kind k b =
-    cond (eqb k 1) (sized 1 b (open_body b))
+    cond (eqb k 1) (sized 1 b (open_body b (direction_with (get_or b 6 0))))
     (cond (eqb k 2) (sized 2 b (progress_body (field 0 2 b) (get_or b 2 0)))
-    (cond (eqb k 3) (sized 3 b (hold_body (field 0 2 b) (get_or b 2 0)))
+    (cond (eqb k 3) (sized 3 b (hold_body (field 0 2 b) (auxiliary_with (get_or b 2 0))))
     (cond (eqb k 4) (sized 4 b (Release (field 0 4 b)))
     (cond (eqb k 5) (sized 5 b (facility_body (field 0 2 b) (get_or b 2 0) (drop 3 b)))
     (cond (eqb k 6) (sized 6 b (Answer (field 0 4 b)))

@@ -1,7 +1,8 @@
 -- How long a record is by its kind, and a log as a list of records (document 01, "Event records").
 use Rattle.std.specs.Prelude.{ℕ, zero, suc, ◌+◌, cond, List, [], ◌∷◌, eqb, length, take, drop, get_or}
 
--- the table of kinds, its column "body", and "event 7, Leg facility (body 69 ..)" (document 02, slip 5); a kind that is not listed has none
+-- the table of kinds, its column "body", and "event 7, Leg facility (body 69 ..)" (document 02, slip 5); a kind that
+-- is not listed has none
 abbrev pub body_length : ℕ → ℕ
 body_length kind =
     cond (eqb kind 1) 24

@@ -1,8 +1,10 @@
 -- The numbers of refusals (document 01, "Event records": the table of what is returned).
 use Rattle.std.specs.Prelude.{ℕ}
 use Rattle.events.specs.declared.Refusal.{Refusal}
-use Rattle.events.specs.declared.Refusal.TheVariants.{BufferTooSmall, UnsoundBoard, WrongLength, UnknownKind, FieldOutOfRange}
-use Rattle.events.specs.declared.Refusal.TheVariants.{LegOnBoard, ReferenceInUse, NoEmptyRow, NoSuchCall, NoSuchLeg, NotPermitted, NoSuchInvoke}
+use Rattle.events.specs.declared.Refusal.TheVariants.{BufferTooSmall, UnsoundBoard, WrongLength, UnknownKind}
+use Rattle.events.specs.declared.Refusal.TheVariants.{FieldOutOfRange}
+use Rattle.events.specs.declared.Refusal.TheVariants.{LegOnBoard, ReferenceInUse, NoEmptyRow, NoSuchCall, NoSuchLeg}
+use Rattle.events.specs.declared.Refusal.TheVariants.{NotPermitted, NoSuchInvoke}
 
 -- "Returned", in the order of the checks
 abbrev pub refusal_number : Refusal → ℕ

@@ -59,7 +59,8 @@ pub fn record_length(kind: u8) -> usize
 
 // The body, where it is as long as its kind has it.
 fn sized<const N: usize>(body: &[u8]) -> Result<&[u8; N], Refusal>
-    ensures { MatchResult result (λ b. (b.now ≡ body.now) × (length body.now ≡ N)) (λ c. (c ≡ WrongLength) × (length body.now ≢ N)) }
+    ensures { MatchResult result
+        (λ b. (b.now ≡ body.now) × (length body.now ≡ N)) (λ c. (c ≡ WrongLength) × (length body.now ≢ N)) }
 {
     body.as_array().ok_or(Refusal::WrongLength)
 }
@@ -159,7 +160,8 @@ fn read_leg_facility(body: &[u8]) -> Result<Request<'_>, Refusal>
     Ok(Request::LegFacility(u32::from_be_bytes([l0, l1, l2, l3]), count, octets))
 }
 
-// A kind stays an octet: every octet has a length, listed or not, so an enum would need a case for the others.
+// A kind stays an octet, here and in `record_length`: an enum's cases and its TryFrom would stand beside these two
+// matches, and neither would go.
 fn read_body(kind: u8, body: &[u8]) -> Result<Request<'_>, Refusal>
     ensures { request_read result ≡ of_kind kind body.now }
 {

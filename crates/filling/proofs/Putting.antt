@@ -7,7 +7,7 @@ use mathlib.Core.List.{List, [], ◌++◌, append_assoc}
 use lib.ListN.{length, take, drop, length-append, length-take, take-append-drop}
 use lib.Seq.{take_at, drop_at, drop-drop}
 use Rattle.octets.specs.Buffers.{written_at}
-use Rattle.filling.specs.Code.Putting.{HasRoom, Put}
+use Rattle.filling.specs.Code.Putting.{HasRoom, Put, PutGivenRoom}
 use Rattle.filling.specs.declared.Filling.{Filling}
 
 -- what lies beyond, by its place
@@ -51,8 +51,8 @@ front x y a h = omega (arith, length-append x y, h)
 pub rest : {x : List ℕ} (y : List ℕ) {a b : Filling} → Put x a b → HasRoom (x ++ y) a → HasRoom y b
 rest {x} y p h = omega (arith, length-append x y, p.place, p.long, h)
 
-pub next : {x y : List ℕ} {a b c : Filling} → Put x a b → (HasRoom y b → Put y b c) → HasRoom (x ++ y) a → Put (x ++ y) a c
+pub next : {x y : List ℕ} {a b c : Filling} → Put x a b → PutGivenRoom y b c → PutGivenRoom (x ++ y) a c
 next {x} {y} {a} p q h = join p (q (rest y p h)) (front x y a h)
 
-pub both : {x y : List ℕ} {a b c : Filling} → (HasRoom x a → Put x a b) → (HasRoom y b → Put y b c) → HasRoom (x ++ y) a → Put (x ++ y) a c
+pub both : {x y : List ℕ} {a b c : Filling} → PutGivenRoom x a b → PutGivenRoom y b c → PutGivenRoom (x ++ y) a c
 both {x} {y} {a} p q h = next (p (front x y a h)) q h

@@ -4,7 +4,8 @@
 ghost use Rattle.std.specs.Prelude.{◌≡◌};
 ghost use Rattle.filling.specs.Code.Putting.{PutIfRoom};
 
-// A buffer, and the place in it that the next octet goes to. No Model: the two fields are all that definitions speak of.
+// A buffer, and the place in it that the next octet goes to. No Model: the two fields are all that definitions speak
+// of. No invariant: `put` tests for room, wherever the place is.
 #[derive(Drop)]
 pub struct Filling<'a> {
     buffer: &'a mut [u8],
@@ -29,7 +30,7 @@ impl<'a> Filling<'a> {
     }
 
     // Puts the octets there, and the place moves behind them. Where the buffer has no room for them, nothing changes:
-    // `end` shows which, and callers, who have tested the room, would only unwrap a result.
+    // `end` shows which. Who begins to fill knows that there is room, and would only unwrap a result.
     pub fn put(&mut self, octets: &[u8])
         ensures { PutIfRoom octets.now self.old self.new }
     {

@@ -14,6 +14,7 @@ operation_octets EctExecute = integer (fewest (pos 6))
 operation_octets (ExplicitEctExecute l) = element 0x06 (ect_object 0x01) ++ integer (fewest l.0)
 operation_octets EctLinkIdRequest = element 0x06 (ect_object 0x04)
 
--- "operation, invoke identifier and, for the explicit one, LinkId go in; the component octets go into a lent buffer, integers in fewest octets"
+-- "operation, invoke identifier and, for the explicit one, LinkId go in; the component octets go into a lent buffer,
+-- integers in fewest octets"
 unfoldable pub invoke_octets : Operation → InvokeIdentifier → List ℕ
 invoke_octets op i = element 0xA1 (integer (fewest i.0) ++ operation_octets op)

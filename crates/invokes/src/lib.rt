@@ -3,7 +3,7 @@
 
 ghost use Rattle.std.specs.Prelude.{◌≡◌};
 ghost use Rattle.octets.specs.Numbers.{fewest};
-ghost use Rattle.filling.specs.Code.Putting.{HasRoom, Put};
+ghost use Rattle.filling.specs.Code.Putting.{PutGivenRoom};
 ghost use Rattle.invokes.specs.Invokes.{operation_octets};
 ghost use Rattle.invokes.specs.Contract.{Writes};
 
@@ -18,15 +18,16 @@ use thiserror::Error;
 #[error("the buffer has fewer than 32 octets")]
 pub struct BufferTooSmall;
 
-// An invoke identifier in the fewest octets.
+// An invoke identifier in the fewest octets. A function of its own, which wrong builds of the writer change.
 fn identifier_octets(identifier: InvokeIdentifier) -> IntegerOctets
     ensures { result ≡ fewest identifier.0 }
 {
     Integer::from(identifier).into()
 }
 
+#[tactic(auto, using(component::proofs::WriterLaws::then_integer))]
 fn put_operation(operation: Operation, out: &mut Filling)
-    ensures { HasRoom (operation_octets operation) out.old → Put (operation_octets operation) out.old out.new }
+    ensures { PutGivenRoom (operation_octets operation) out.old out.new }
 {
     match operation {
         Operation::EctExecute => put_integer(IntegerOctets::One(ECT_EXECUTE), out),
@@ -38,8 +39,8 @@ fn put_operation(operation: Operation, out: &mut Filling)
     }
 }
 
-// The octets of the invoke in the front of the buffer, which may have any content and length; or a refusal that
-// leaves it.
+// The octets of the invoke in the front of the buffer, which may have any content and length, and how many they are, as
+// the buffer is the caller's; or a refusal that leaves it.
 pub fn write_invoke(
     operation: Operation,
     identifier: InvokeIdentifier,

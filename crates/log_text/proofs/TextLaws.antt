@@ -7,7 +7,7 @@ use mathlib.Core.List.{List, [], ◌∷◌, ◌++◌}
 use native.Mathlib.Decide.{dec_lt}
 use lib.Dec.{leb}
 use lib.ListN.{length, get_or, take, length-append}
-use lib.Seq.{take-suc}
+use lib.Seq.{take_all, take-suc}
 use native.Mathlib.Numerals.{add-one}
 use borrow.Author.Tests.{lt-ltb, le-ltb, le-leb, lt-leb}
 use Rattle.std.specs.Prelude.{Option, Some, None, IfSome, IfNone}
@@ -97,6 +97,10 @@ pub text_none : (s : List ℕ) → length s ≡ 0 → octets_text s ≡ 45 ∷ [
 unfolding octets_text
 text_none [] h = refl
 text_none (o ∷ s) h = absurd (omega arith)
+
+-- all octets
+pub text_all : (s : List ℕ) (i : ℕ) → length s ≤ i → 1 ≤ length s → octets_text s ≡ hex_octets (take i s)
+text_all s i l h = rw (text_some s h, take_all i s l)
 
 -- ---- lines
 

@@ -1,6 +1,6 @@
 // The text of a log: a line for each record, the last line, and the two lines that are always the same.
-// Each call writes its line at the front of the buffer lent and returns how many octets that is. Where the line
-// does not fit it returns `None` and leaves the buffer untouched.
+// Each call writes its line at the front of the buffer lent and returns how many octets that is, as the buffer is the
+// caller's. Where the line does not fit it returns `None` and leaves the buffer untouched.
 //
 // A `write!` may fail by its contract whatever room there is, and these lines are written wherever they fit: so the
 // digits are put into the buffer, which cannot fail.
@@ -9,7 +9,7 @@
 ghost use Rattle.std.specs.Prelude.{◌≡◌, [], ◌∷◌, ◌++◌, ◌≤◌, ◌<◌, leb, length};
 ghost use Rattle.log_text.specs.Lines.{decimal, hex_digit, hex_octet, octets_text};
 ghost use Rattle.log_text.specs.Lines.{record_line, end_line, first_line, bad_options_line};
-ghost use Rattle.filling.specs.Code.Putting.{HasRoom, Put};
+ghost use Rattle.filling.specs.Code.Putting.{PutGivenRoom};
 ghost use Rattle.log_text.specs.Writing.{Fitted};
 
 use filling::Filling;
@@ -31,15 +31,14 @@ fn decimal_length(n: u64) -> usize
 // The private writers promise where there is room: the length of the line that they fill was tested once.
 #[tactic(auto, using(crate::proofs::TextLaws::decimal_written))]
 fn put_decimal(n: u64, line: &mut Filling)
-    ensures { HasRoom (decimal n) line.old → Put (decimal n) line.old line.new }
+    ensures { PutGivenRoom (decimal n) line.old line.new }
 {
     line.put(itoa::Buffer::new().format(n).as_bytes());
 }
 
 // A number in decimal, and the octet behind it.
 fn put_number(n: u64, behind: u8, line: &mut Filling)
-    ensures { HasRoom (decimal n ++ (behind ∷ [])) line.old
-        → Put (decimal n ++ (behind ∷ [])) line.old line.new }
+    ensures { PutGivenRoom (decimal n ++ (behind ∷ [])) line.old line.new }
 {
     put_decimal(n, line);
     line.put(&[behind]);
@@ -54,13 +53,14 @@ fn hex_digit(d: u8) -> u8
 }
 
 fn put_octet(octet: u8, line: &mut Filling)
-    ensures { HasRoom (hex_octet octet) line.old → Put (hex_octet octet) line.old line.new }
+    ensures { PutGivenRoom (hex_octet octet) line.old line.new }
 {
     line.put(&[hex_digit(octet / 16), hex_digit(octet % 16)]);
 }
 
+#[tactic(auto, using(crate::proofs::TextLaws::text_none, crate::proofs::TextLaws::text_all))]
 fn put_octets(octets: &[u8], line: &mut Filling)
-    ensures { HasRoom (octets_text octets.now) line.old → Put (octets_text octets.now) line.old line.new }
+    ensures { PutGivenRoom (octets_text octets.now) line.old line.new }
 {
     if octets.is_empty() {
         line.put(&[DASH]);
@@ -94,7 +94,8 @@ fn record_fits(number: u64, kind: u8, returned: u8, octets: &[u8], room: usize) 
         .is_some_and(|left| octets_fit(octets, left))
 }
 
-// The line of a record: its number, its kind, what was returned, and the octets written.
+// The line of a record: its number, its kind, what was returned, and the octets written. Kind and what was returned are
+// numbers, as the format has them: a text knows no events.
 #[tactic(auto, using(crate::proofs::TextLaws::line_length, crate::proofs::TextLaws::spaced_length))]
 pub fn record_line(
     number: u64,
@@ -118,7 +119,7 @@ pub fn record_line(
     Some(line.end())
 }
 
-// The last line: how many legs, pairs and live LinkIds the board has.
+// The last line: how many legs, pairs and live LinkIds the board has. Three numbers, as a text knows no board.
 pub fn end_line(legs: u64, pairs: u64, links: u64, out: &mut [u8]) -> Option<usize>
     ensures { Fitted (end_line legs pairs links) out.old out.new result }
 {

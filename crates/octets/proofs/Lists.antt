@@ -1,5 +1,8 @@
 -- Laws of tests, filters and look-ups over lists, and of lists that differ in their order alone.
 use Rattle.std.specs.Prelude.{None, Option, Some}
+use Rattle.std.proofs.lemmas.Bool.{and_parts, not-true}
+pub use Rattle.std.proofs.lemmas.Bool.{or_left, or_right, or_cases, or_parts as or_false, cases_Bool as test, eqb-true as eqb_eq, eq-eqb as eqb_of}
+pub use Rattle.std.proofs.lemmas.List.Folds.{list_all-map as all_map}
 use Prim.Native.Nat.{◌+◌, ◌≤◌, ℕ, suc, suc-le-suc, zero-le}
 use native.Mathlib.Nat.{le_step, le_of_suc-le-suc, not-suc-le-zero, suc-ne-zero, le_refl}
 use native.Mathlib.Omega.{arith}
@@ -7,7 +10,7 @@ use mathlib.Core.Path.{◌∙◌, ◌≡◌, ap, refl, subst, subst⁻¹, sym, a
 use mathlib.Core.Logic.{◌⊎◌, inl, inr}
 use mathlib.Core.Bool.{Bool, true, not, false, ◌&&◌, ◌||◌}
 use mathlib.Core.List.{◌∷◌, List, Memᴰ, [], map}
-use lib.Dec.{T, eqb, eqb→eq, eqb_refl}
+use lib.Dec.{T, eqb, eqb_refl}
 use lib.ListN.{length}
 use Rattle.octets.specs.Lists.{any, all, cons_if, filter, find, or_else, cons_opt, only, filter_map, distinct}
 use Rattle.octets.specs.Tests.{has}
@@ -21,23 +24,10 @@ pub both : {a b : Bool} → a ≡ true → b ≡ true → (a && b) ≡ true
 both {a} {b} p q = ap (λ (x : Bool). x && b) p ∙ q
 
 pub left : (a b : Bool) → (a && b) ≡ true → a ≡ true
-left true b t = refl
-left false b t = t
+left a b t = (and_parts a b t).0
 
 pub right : (a b : Bool) → (a && b) ≡ true → b ≡ true
-right true b t = t
-right false b t = absurd (true_not_false t refl)
-
-pub or_left : (a b : Bool) → a ≡ true → (a || b) ≡ true
-or_left a b t = ap (λ (x : Bool). x || b) t
-
-pub or_right : (a b : Bool) → b ≡ true → (a || b) ≡ true
-or_right true b t = refl
-or_right false b t = t
-
-pub or_cases : (a b : Bool) → (a || b) ≡ true → (a ≡ true) ⊎ (b ≡ true)
-or_cases true b t = inl refl
-or_cases false b t = inr t
+right a b t = (and_parts a b t).1
 
 pub is_true : (b : Bool) → T b → b ≡ true
 is_true true t = refl
@@ -47,21 +37,12 @@ pub from_true : {b : Bool} → b ≡ true → T b
 from_true e = subst⁻¹ T e tt
 
 pub is_not : {b : Bool} → not b ≡ true → b ≡ false
-is_not {b = true} t = absurd (true_not_false t refl)
-is_not {b = false} t = refl
-
-pub test : (b : Bool) → (b ≡ true) ⊎ (b ≡ false)
-test true = inl refl
-test false = inr refl
+is_not {b} t = not-true b t
 
 pub same_tests : {a b : Bool} → (a ≡ true → b ≡ true) → (b ≡ true → a ≡ true) → a ≡ b
 same_tests {a = true} {b} f g = sym (f refl)
 same_tests {a = false} {b = true} f g = g refl
 same_tests {a = false} {b = false} f g = refl
-
-pub or_false : (a b : Bool) → (a || b) ≡ false → (a ≡ false) × (b ≡ false)
-or_false true b t = absurd (true_not_false refl t)
-or_false false b t = (refl, t)
 
 pub neither : {a b : Bool} → a ≡ false → b ≡ false → (a || b) ≡ false
 neither {a} {b} p q = ap (λ (x : Bool). x || b) p ∙ q
@@ -80,14 +61,8 @@ and_swap false false c = refl
 
 -- ---- equal numbers
 
-pub eqb_eq : (m n : ℕ) → eqb m n ≡ true → m ≡ n
-eqb_eq m n e = eqb→eq m n (from_true e)
-
 pub eqb_self : (n : ℕ) → eqb n n ≡ true
 eqb_self n = is_true (eqb n n) (eqb_refl n)
-
-pub eqb_of : (m n : ℕ) → m ≡ n → eqb m n ≡ true
-eqb_of m n e = subst (λ (k : ℕ). eqb m k ≡ true) e (eqb_self m)
 
 pub eqb_sym : (m n : ℕ) → eqb m n ≡ eqb n m
 eqb_sym m n = same_tests (λ t. eqb_of n m (sym (eqb_eq m n t))) (λ t. eqb_of m n (sym (eqb_eq n m t)))
@@ -316,10 +291,6 @@ module _ {A B : Type 0} where
   pub any_map : (p : B → Bool) (f : A → B) (l : List A) → any p (map f l) ≡ any (λ (x : A). p (f x)) l
   any_map p f [] = refl
   any_map p f (x ∷ l) = ap (λ (b : Bool). p (f x) || b) (any_map p f l)
-
-  pub all_map : (p : B → Bool) (f : A → B) (l : List A) → all p (map f l) ≡ all (λ (x : A). p (f x)) l
-  all_map p f [] = refl
-  all_map p f (x ∷ l) = ap (λ (b : Bool). p (f x) && b) (all_map p f l)
 
   pub mem_map : (f : A → B) {x : A} {l : List A} → Memᴰ x l → Memᴰ (f x) (map f l)
   mem_map f (Memᴰ.head e) = Memᴰ.head (ap f e)

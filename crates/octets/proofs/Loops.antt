@@ -56,6 +56,9 @@ module _ {A : Type 0} where
       let c : length (filter p (drop i ys)) ≡ 0 = rw s.rest in
       omega (arith, t.total)
 
+-- for a loop that counts in columns
+pub ruleset counting = (step_at, past_end, count_step, count_end)
+
 -- ---- tests of what `filter_map` gives
 
 module _ {A B : Type 0} (f : A → Option B) where

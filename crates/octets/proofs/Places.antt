@@ -2,13 +2,13 @@
 use Rattle.std.specs.Prelude.{None, Option, Some, option_map}
 use Prim.Native.Nat.{ℕ, zero, suc, ◌+◌, ◌-◌, ◌<◌, zero-le, suc-le-suc}
 use native.Mathlib.Nat.{le_of_suc-le-suc, not-suc-le-zero}
-use native.Mathlib.Numerals.{add-one}
 use native.Mathlib.Omega.{arith}
 use mathlib.Core.Path.{◌≡◌, refl, sym, ap, ap₂, ◌∙◌}
 use mathlib.Core.Bool.{Bool, true, false, ◌||◌}
 use mathlib.Core.List.{List, [], ◌∷◌, ◌++◌, map}
-use lib.ListN.{length, get_or, set, take, drop, length-drop}
-use lib.Seq.{take_all}
+use lib.ListN.{length, get_or, set, take, drop}
+use Rattle.std.proofs.lemmas.List.{length-append, length-map, length-take, length-drop, get_or_default, take_rest}
+use Rattle.std.proofs.lemmas.List.Edits.{map_over_more}
 use Rattle.octets.specs.Lists.{any, or_else, find, cons_opt, filter_map, place_from}
 use Rattle.octets.specs.Tests.{has, bind_option}
 
@@ -69,16 +69,6 @@ module _ {A : Type 0} where
       go false None f q = f refl
       go false (Some j) f q = let z : ◌≡◌ {A = ℕ} 0 1 = cc in absurd (omega arith)
 
-  pub place_some : (p : A → Bool) (l : List A) (i : ℕ) → place_from p 0 l ≡ Some i → any p l ≡ true
-  unfolding place_from
-  place_some p [] i e = let z : ◌≡◌ {A = ℕ} 0 1 = cc in absurd (omega arith)
-  place_some p (x ∷ l) i e = go (p x) (place_from p 0 l) (place_some p l) (sym (place_cons p x l) ∙ e)
-    where
-      go : (b : Bool) (o : Option ℕ) → ((j : ℕ) → o ≡ Some j → any p l ≡ true) → or_else b 0 (option_map suc o) ≡ Some i → (b || any p l) ≡ true
-      go true o f q = refl
-      go false None f q = let z : ◌≡◌ {A = ℕ} 0 1 = cc in absurd (omega arith)
-      go false (Some j) f q = f j refl
-
   pub place_ext : (p q : A → Bool) (k : ℕ) (l : List A) → ((x : A) → p x ≡ q x) → place_from p k l ≡ place_from q k l
   unfolding place_from
   place_ext p q k [] f = refl
@@ -111,14 +101,6 @@ module _ {A B : Type 0} where
       go None e h = h ∙ value_at_suc f d x l (place_from (λ (y : A). has q (f y)) 0 l)
       go (Some y) e h = here (q y) y e h
 
-  pub any_filter_map : (q : B → Bool) (f : A → Option B) (l : List A) → any q (filter_map f l) ≡ any (λ (x : A). has q (f x)) l
-  any_filter_map q f [] = refl
-  any_filter_map q f (x ∷ l) = go (f x) (any_filter_map q f l)
-    where
-      go : (u : Option B) → any q (filter_map f l) ≡ any (λ (y : A). has q (f y)) l → any q (cons_opt u (filter_map f l)) ≡ (has q u || any (λ (y : A). has q (f y)) l)
-      go None e = e
-      go (Some y) e = ap (λ (b : Bool). q y || b) e
-
   pub filter_map_ext : (f g : A → Option B) (l : List A) → ((x : A) → f x ≡ g x) → filter_map f l ≡ filter_map g l
   filter_map_ext f g [] h = refl
   filter_map_ext f g (x ∷ l) h = ap₂ (λ (o : Option B) (r : List B). cons_opt o r) (h x) (filter_map_ext f g l h)
@@ -139,23 +121,12 @@ module _ {A : Type 0} (f : A → A) where
   abbrev pub changed_to : ℕ → List A → List A
   changed_to i l = map f (take i l) ++ drop i l
 
-  pub changed_at : (i : ℕ) (l : List A) (d : A) → get_or (changed_to i l) i d ≡ get_or l i d
-  changed_at zero l d = refl
-  changed_at (suc i) [] d = refl
-  changed_at (suc i) (x ∷ l) d = changed_at i l d
-
-  changed_set : (i : ℕ) (l : List A) (d : A) → i < length l → set (changed_to i l) i (f (get_or l i d)) ≡ changed_to (suc i) l
-  changed_set i [] d h = absurd (not-suc-le-zero h)
-  changed_set zero (x ∷ l) d h = refl
-  changed_set (suc i) (x ∷ l) d h = ap (λ (r : List A). f x ∷ r) (changed_set i l d (le_of_suc-le-suc h))
-
   pub changed_step : (i : ℕ) (l now : List A) (d v : A) → i < length l → now ≡ changed_to i l → v ≡ f (get_or now i d) → set now i v ≡ changed_to (i + 1) l
   changed_step i l now d v h e w =
-      ap₂ (λ (r : List A) (x : A). set r i x) e (w ∙ ap (λ (r : List A). f (get_or r i d)) e ∙ ap f (changed_at i l d))
-      ∙ changed_set i l d h
-      ∙ ap (λ (n : ℕ). changed_to n l) (sym (add-one i))
+      let within : i < length now = omega (arith, ap length e, length-append (map f (take i l)) (drop i l), length-map (take i l) f, length-take i l, length-drop i l) in
+      ap (set now i) w ∙ map_over_more f l now i (get_or now i d) h e (get_or_default now i d (get_or now i d) within)
 
 -- ---- a part from a place to the end
 
 pub rest : {A : Type 0} (k : ℕ) (s : List A) → take (length s - k) (drop k s) ≡ drop k s
-rest k s = take_all (length s - k) (drop k s) (omega (arith, length-drop k s))
+rest k s = take_rest s k

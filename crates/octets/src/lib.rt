@@ -68,6 +68,7 @@ impl LinkId {
     }
 }
 
+// As for a LinkId: an impl that a macro writes is refused, so each sort has its own.
 impl From<Integer> for InvokeIdentifier {
     ghost from_gives = { λ integer identifier. identifier ≡ record { 0 = integer.0 } };
 
@@ -107,7 +108,7 @@ impl From<IntegerOctets> for Integer {
 
     fn from(octets: IntegerOctets) -> Integer {
         match octets {
-            IntegerOctets::One(a) => Integer(a.cast_signed() as i16),
+            IntegerOctets::One(a) => Integer(i16::from(a.cast_signed())),
             IntegerOctets::Two(a, b) => Integer(i16::from_be_bytes([a, b])),
         }
     }

@@ -1,5 +1,6 @@
 -- What `play` makes of a piece of a log: as many records as the piece has whole and the buffer has room for.
-use Rattle.std.specs.Prelude.{ℕ, zero, suc, ◌+◌, ◌-◌, ◌≤◌, ◌≡◌, Bool, true, false, cond, List, [], ◌∷◌, ◌++◌, eqb, leb, ltb, length, take, drop, get_or, Option, None, Some}
+use Rattle.std.specs.Prelude.{ℕ, zero, suc, ◌+◌, ◌-◌, ◌≤◌, ◌≡◌, Bool, true, false, cond, Option, None, Some}
+use Rattle.std.specs.Prelude.{List, [], ◌∷◌, ◌++◌, eqb, leb, ltb, length, take, drop, get_or}
 use Rattle.board.specs.declared.Board.{Board}
 use Rattle.events.specs.Records.{record_length}
 use Rattle.rules.specs.Step.{Outcome, step_tested}
@@ -16,7 +17,9 @@ use Rattle.playing.specs.Log.{outcome_line, judged, stops_reading, largest_numbe
 
 -- how much of a piece the record in front of it takes; 0 where the record goes on behind the piece
 abbrev pub front_length : Bool → List ℕ → ℕ
-front_length last piece = cond (leb (record_length (get_or piece 0 0)) (length piece)) (record_length (get_or piece 0 0)) (cond last (length piece) 0)
+front_length last piece =
+    cond (leb (record_length (get_or piece 0 0)) (length piece)) (record_length (get_or piece 0 0))
+    (cond last (length piece) 0)
 
 -- the same, `None` where the record goes on behind the piece
 abbrev pub front : Bool → List ℕ → Option ℕ
@@ -85,7 +88,8 @@ pub record PlaysAs (p : Playing) (before after : List ℕ) (r : Played) : Type 0
 abbrev pub Plays : Board → ℕ → List ℕ → Bool → List ℕ → List ℕ → Played → Type 0
 Plays b n piece last before after r = PlaysAs (playing b n piece last (length before)) before after r
 
--- the board, the number returned and the line are those of an outcome; the line is short, so that a buffer of 512 octets has room for it
+-- the board, the number returned and the line are those of an outcome; the line is short, so that a buffer of 512
+-- octets has room for it
 pub record PlaysRecordAs (o : Outcome) (number : ℕ) (event before after : List ℕ) (r : PlayedRecord) : Type 0 where
   pub board : r.board ≡ o.board
   pub returned : answer_number r.answer ≡ o.returned

@@ -4,10 +4,9 @@
 mod records;
 
 ghost use Rattle.std.specs.Prelude.{◌≡◌, ◌≤◌, ◌<◌, length, get_or, IfSome};
-ghost use Rattle.board.specs.Soundness.{sound as sound_board};
 ghost use Rattle.ect.specs.Contract.{answer_number};
 ghost use Rattle.playing.specs.Log.{stops_reading};
-ghost use Rattle.playing.specs.Playing.{PlaysRecord, front, longest_line, pause_at_end, Plays};
+ghost use Rattle.playing.specs.Playing.{PlaysRecord, front, longest_line, pause_at_end, paused_at, Plays};
 
 use board::Board;
 use ect::step_tested;
@@ -96,26 +95,13 @@ fn stops(answer: Result<usize, Refusal>) -> bool
 }
 
 // Plays the records of a piece. A number that 64 bits do not hold is not given: the reading ends at the one before.
-// `is_last` stays beside the piece: the caller alone knows whether the log has ended.
+// `is_last` stays beside the piece: the caller alone knows whether the log has ended. Board and number stay apart, as
+// `Plays` names them. The board is tested once, since a step keeps soundness. The loop goes by places: the length of a
+// record says where the next one begins, and the place is part of what it returns.
 pub fn play(start: Board, before: u64, piece: &[u8], is_last: bool, out: &mut [u8]) -> Played
     ensures { Plays start before piece.now is_last out.old out.new result }
 {
-    play_tested(start, sound(start), before, piece, is_last, out)
-}
-
-// The board is tested once, and the flag stands beside it: a step keeps soundness, and a caller tells what it knows.
-// The loop goes by places: a record's length says where the next one begins, and the place is part of what it returns.
-fn play_tested(
-    start: Board,
-    is_sound: bool,
-    before: u64,
-    piece: &[u8],
-    is_last: bool,
-    out: &mut [u8],
-) -> Played
-    requires { is_sound ≡ sound_board start }
-    ensures { Plays start before piece.now is_last out.old out.new result }
-{
+    let is_sound = sound(start);
     let mut so_far = Played {
         board: start,
         number: before,
@@ -125,22 +111,13 @@ fn play_tested(
     };
     while so_far.read < piece.len() {
         if out.len() - so_far.written < LONGEST_LINE {
-            return Played {
-                pause: Pause::FullOutput,
-                ..so_far
-            };
+            return paused(so_far, Pause::FullOutput);
         }
         let Some(taken) = front_length(&piece[so_far.read..], is_last) else {
-            return Played {
-                pause: Pause::MoreInput,
-                ..so_far
-            };
+            return paused(so_far, Pause::MoreInput);
         };
         if u64::MAX <= so_far.number {
-            return Played {
-                pause: Pause::End,
-                ..so_far
-            };
+            return paused(so_far, Pause::End);
         }
         so_far.number += 1;
         let played = play_record(
@@ -155,15 +132,19 @@ fn play_tested(
         so_far.written += played.written;
         // Nothing behind it is read.
         if stops(played.answer) {
-            return Played {
-                pause: Pause::End,
-                ..so_far
-            };
+            return paused(so_far, Pause::End);
         }
     }
     so_far
 }
 
+fn paused(so_far: Played, pause: Pause) -> Played
+    ensures { result ≡ paused_at so_far.board so_far.number so_far.read so_far.written pause }
+{
+    Played { pause, ..so_far }
+}
+
+// Behind the last piece nothing is read.
 fn at_end(is_last: bool) -> Pause
     ensures { result ≡ pause_at_end is_last }
 {

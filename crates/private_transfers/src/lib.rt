@@ -12,6 +12,7 @@ use component::ECT_INFORM;
 use component::arguments::read_arguments;
 use digits::all_digits;
 use elements::{first_element, only_element};
+use thiserror::Error;
 
 // How the other call of the transfer stands.
 #[derive(Clone, Copy, Debug, PartialEq, Eq)]
@@ -34,8 +35,9 @@ impl TryFrom<u8> for Indication {
     }
 }
 
-// The refusal to read an octet as an indication: none has that number.
-#[derive(Clone, Copy, Debug, PartialEq, Eq)]
+// The refusal to read an octet as an indication: none has that number. Its own type: nothing here knows of a board.
+#[derive(Clone, Copy, Debug, PartialEq, Eq, Error)]
+#[error("no indication has that number")]
 pub struct UnknownIndication;
 
 // The number of the other call's party: not sent, sent without its digits, or given.

@@ -4,7 +4,8 @@
 ghost use Rattle.std.specs.Prelude.{◌≡◌, [], ◌∷◌, ◌++◌, ◌+◌, ◌≤◌, length};
 ghost use Rattle.rules.specs.Replies.{Reply, Tell, Drop, Gone, PassOn, record_octets, mark_only, number_as_told, told};
 ghost use Rattle.rules.specs.Replies.{facility, transferred_active};
-ghost use Rattle.replies.specs.Code.Writing.{rendered, transfer_records, message_number, description_number, request_number};
+ghost use Rattle.replies.specs.Code.Writing.{rendered, transfer_records};
+ghost use Rattle.replies.specs.Code.Writing.{message_number, description_number, request_number};
 
 use Description::{TransferredActive, TransferredAlerting};
 use Message::{Facility, Notify};
@@ -43,6 +44,13 @@ pub struct FarParty {
     pub number: TellNumber,
 }
 
+// The marks of a number, octets as in the record: unknown or not sent, given, withheld.
+const UNKNOWN: u8 = 0;
+
+const GIVEN: u8 = 1;
+
+const WITHHELD: u8 = 2;
+
 fn mark_only(mark: u8) -> TellNumber
     ensures { result ≡ mark_only mark }
 {
@@ -57,7 +65,7 @@ fn mark_only(mark: u8) -> TellNumber
 pub fn unknown() -> TellNumber
     ensures { result ≡ mark_only 0 }
 {
-    mark_only(0)
+    mark_only(UNKNOWN)
 }
 
 // A far party's number as it is told. Digits that are restricted are withheld, so they never reach the octets.
@@ -68,12 +76,12 @@ pub fn number_as_told(number: PartyNumber) -> TellNumber
         return unknown();
     }
     if number.presentation == 1 {
-        return mark_only(2);
+        return mark_only(WITHHELD);
     }
     // A variable: an array field is not borrow checked where it goes into a literal straight.
     let digits = number.digits;
     TellNumber {
-        mark: 1,
+        mark: GIVEN,
         count: number.count,
         digits,
     }
@@ -122,7 +130,8 @@ fn tell_record(
     number: TellNumber,
     request: bool,
 ) -> [u8; 25]
-    ensures { result ≡ record_octets (Tell leg (message_number message) (description_number description) number (request_number request)) }
+    ensures { result ≡ record_octets
+        (Tell leg (message_number message) (description_number description) number (request_number request)) }
 {
     let [a, b, c, d] = leg.to_be_bytes();
     let head = [
@@ -147,29 +156,20 @@ fn pass_on_record(leg: u32, count: u8, component: [u8; 64]) -> [u8; 70]
     joined(&[0x85, a, b, c, d, count], &component)
 }
 
-// What a transfer tells the party at a leg: `other` is whether the other party alerts, the number is the other's.
-fn told_record(leg: u32, alerts: bool, other: bool, number: TellNumber) -> [u8; 25]
-    ensures { result ≡ record_octets (told leg alerts other number) }
+// What a transfer tells a party of the other.
+fn told_record(party: FarParty, other: FarParty) -> [u8; 25]
+    ensures { result ≡ record_octets (told party.leg party.alerts other.alerts other.number) }
 {
-    if alerts {
-        return tell_record(leg, Notify, TransferredActive, number, false);
+    if party.alerts {
+        return tell_record(party.leg, Notify, TransferredActive, other.number, false);
     }
-    if other {
-        return tell_record(leg, Facility, TransferredAlerting, unknown(), true);
+    if other.alerts {
+        return tell_record(party.leg, Facility, TransferredAlerting, unknown(), true);
     }
-    tell_record(leg, Facility, TransferredActive, number, true)
+    tell_record(party.leg, Facility, TransferredActive, other.number, true)
 }
 
 impl Out {
-    // Without octets: each reply begins with it, and `nothing` is the same where there is no record.
-    fn new() -> Out
-        ensures { result.octets.items ≡ [] }
-    {
-        Out {
-            octets: ArrayVec::new(),
-        }
-    }
-
     // With one record more.
     fn with(mut self, octets: &[u8]) -> Out
         requires { length self.octets.items + length octets.now ≤ 128 }
@@ -186,7 +186,9 @@ impl Out {
 pub fn nothing() -> Out
     ensures { result ≡ rendered [] }
 {
-    Out::new()
+    Out {
+        octets: ArrayVec::new(),
+    }
 }
 
 // The answer to a component.
@@ -194,7 +196,7 @@ pub fn nothing() -> Out
 pub fn reply(reference: CallReference, answer: Answer) -> Out
     ensures { result ≡ rendered (Reply reference.0 answer ∷ []) }
 {
-    Out::new().with(&reply_record(reference, answer))
+    nothing().with(&reply_record(reference, answer))
 }
 
 // The release of a served call.
@@ -202,7 +204,7 @@ pub fn reply(reference: CallReference, answer: Answer) -> Out
 pub fn drop_notice(reference: CallReference) -> Out
     ensures { result ≡ rendered (Drop reference.0 ∷ []) }
 {
-    Out::new().with(&drop_record(reference))
+    nothing().with(&drop_record(reference))
 }
 
 // The release of a joined leg, told to its partner.
@@ -210,7 +212,7 @@ pub fn drop_notice(reference: CallReference) -> Out
 pub fn gone(leg: u32) -> Out
     ensures { result ≡ rendered (Gone leg ∷ []) }
 {
-    Out::new().with(&gone_record(leg))
+    nothing().with(&gone_record(leg))
 }
 
 // What an answer tells the partner.
@@ -218,7 +220,7 @@ pub fn gone(leg: u32) -> Out
 pub fn answer_told(partner: u32, number: TellNumber) -> Out
     ensures { result ≡ rendered (Tell partner facility transferred_active number 0 ∷ []) }
 {
-    Out::new().with(&tell_record(partner, Facility, TransferredActive, number, false))
+    nothing().with(&tell_record(partner, Facility, TransferredActive, number, false))
 }
 
 // A component of a joined leg, passed on to its partner.
@@ -226,7 +228,7 @@ pub fn answer_told(partner: u32, number: TellNumber) -> Out
 pub fn pass_on(partner: u32, count: u8, component: [u8; 64]) -> Out
     ensures { result ≡ rendered (PassOn partner count component ∷ []) }
 {
-    Out::new().with(&pass_on_record(partner, count, component))
+    nothing().with(&pass_on_record(partner, count, component))
 }
 
 // The five records of a transfer, the Reply on the reference of the event.
@@ -239,10 +241,10 @@ pub fn transfer(
 ) -> Out
     ensures { result ≡ rendered (transfer_records reference identifier named other) }
 {
-    Out::new()
+    nothing()
         .with(&reply_record(reference, Answer::Result(identifier)))
         .with(&drop_record(named.reference))
         .with(&drop_record(other.reference))
-        .with(&told_record(named.leg, named.alerts, other.alerts, other.number))
-        .with(&told_record(other.leg, other.alerts, named.alerts, named.number))
+        .with(&told_record(named, other))
+        .with(&told_record(other, named))
 }

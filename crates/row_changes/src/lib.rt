@@ -28,7 +28,7 @@ fn on_call<F: FnOnce(Call) -> Call>(row: &mut Row, reference: CallReference, cha
 pub fn is_delivered(call: Call) -> bool
     ensures { result ≡ delivered call }
 {
-    matches!(call.state, CallState::CallDelivered)
+    call.state == CallState::CallDelivered
 }
 
 // The row of one of two legs that a transfer joins: each in place of its call, a Delivered one alerting.

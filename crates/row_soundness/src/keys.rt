@@ -54,9 +54,8 @@ pub fn joined_leg(row: Row) -> Option<JoinedLeg>
 }
 
 // Whether `b` is the partner of `a` and is joined back to it, not both alerting.
-// Tests all without a branch, as it runs for each pair of rows.
 pub fn answers(a: JoinedLeg, b: JoinedLeg) -> bool
     ensures { result ≡ answers_joined a b }
 {
-    (a.partner == b.leg) & (a.leg == b.partner) & !(a.alerting & b.alerting)
+    a.partner == b.leg && a.leg == b.partner && !(a.alerting && b.alerting)
 }

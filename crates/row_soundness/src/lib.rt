@@ -10,7 +10,7 @@ ghost use Rattle.board.specs.Code.Tallies.{row_tally};
 
 use board::finding::is_occupied;
 use board::{
-    AuxiliaryState, Call, CallState, Direction, Row, Standing, Tally, valid_digits, valid_number,
+    AuxiliaryState, Call, CallState, Direction, Row, Standing, Tally, empty_row, valid_number,
     valid_reference,
 };
 use keys::{answers, joined_leg, leg, link, reference};
@@ -44,8 +44,7 @@ fn call_valid(call: Call) -> bool
 fn empty_fits(row: Row) -> bool
     ensures { result ≡ valid_standing row.leg row.number Standing.Empty }
 {
-    let number = row.number;
-    row.leg == 0 && number.presentation == 0 && number.count == 0 && valid_digits(0, &number.digits)
+    row.leg == 0 && row.number == empty_row().number
 }
 
 // The fields of one row obey their rules.
@@ -63,14 +62,11 @@ pub fn row_fits(row: Row) -> bool
 fn both_same<T: Copy + PartialEq>(x: Option<T>, y: Option<T>) -> bool
     ensures { result ≡ has_both T.eq x y }
 {
-    match (x, y) {
-        (Some(m), Some(n)) => m == n,
-        _ => false,
-    }
+    x.is_some() && x == y
 }
 
-// Two rows share a leg, a reference or a LinkId.
-// Tests all three without a branch, as it runs for each pair of rows.
+// Two rows share a leg, a reference or a LinkId. With `||` the proof goes by each way through the tests, and two of
+// them do not close.
 pub fn rows_clash(a: Row, b: Row) -> bool
     ensures { result ≡ clash a b }
 {

@@ -16,7 +16,8 @@ use octets::CallReference;
 use row_soundness::{row_fits, rows_clash, rows_paired};
 use soundness::tally;
 
-// The lowest place, counted from 0, with a call of that reference. `board::finding::lookup` is the same of a board.
+// The lowest place, counted from 0, with a call of that reference. `board::finding::lookup` is the same of a board: the
+// rules name both.
 #[tactic(auto, using(board::proofs::Answers::place_answer), unfolding(board::specs::Lookup::lookup))]
 pub fn lookup(rows: &[Row], reference: CallReference) -> Option<usize>
     ensures { found_answer result ≡ lookup_rows reference.0 rows.now }
@@ -24,7 +25,7 @@ pub fn lookup(rows: &[Row], reference: CallReference) -> Option<usize>
     find(rows, Key::Reference(reference))
 }
 
-// The same of 64 rows by value: the rules name both forms.
+// The same of 64 rows by value. Theorem proofs/Agreement, which docs/ name, says that it agrees with that of a slice.
 pub fn lookup_in(rows: [Row; 64], reference: CallReference) -> Option<usize>
     ensures { found_answer result ≡ lookup_rows reference.0 rows }
 {
@@ -57,7 +58,8 @@ fn none_clash(rows: &[Row]) -> bool
     true
 }
 
-// Whether one of the rows is the partner of this one, or it needs none.
+// Whether one of the rows is the partner of this one, or it needs none. Beside `clashes`, which differs in its test:
+// one function over a test would quantify over it in its contract, no plainer.
 fn is_paired(row: Row, rows: &[Row]) -> bool
     ensures { result ≡ any (paired row) rows.now }
 {
@@ -85,7 +87,7 @@ fn sound(rows: &[Row]) -> bool
     all_fit(rows) && none_clash(rows) && few_link_ids(rows) && all_paired(rows)
 }
 
-// The counts of the rows, once they are found sound.
+// The counts of the rows, once they are found sound. `soundness::count` is the same of a board: the rules name both.
 #[tactic(auto, unfolding(board::specs::Counts::counts, board::specs::Code::Tallies::tally_of))]
 pub fn count(rows: &[Row]) -> Result<Counts, Unsound>
     ensures { counted_answer result ≡ counts rows.now }
@@ -96,7 +98,7 @@ pub fn count(rows: &[Row]) -> Result<Counts, Unsound>
     Ok(tally(rows).into())
 }
 
-// The same of 64 rows by value: the rules name both forms.
+// The same of 64 rows by value, as `lookup_in`.
 pub fn count_in(rows: [Row; 64]) -> Result<Counts, Unsound>
     ensures { counted_answer result ≡ counts rows }
 {

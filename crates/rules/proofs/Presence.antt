@@ -3,7 +3,7 @@ use Prim.Native.Nat.{ℕ}
 use native.Mathlib.Omega.{arith}
 use mathlib.Core.Path.{◌∙◌, refl, ap, sym, subst, subst⁻¹, ap₂, ◌≡◌}
 use mathlib.Core.Logic.{◌⊎◌, inl, inr}
-use mathlib.Core.Bool.{◌&&◌, ◌||◌, Bool, not, true, false, cond}
+use mathlib.Core.Bool.{◌&&◌, ◌||◌, Bool, not, true, false, cond, and-true}
 use mathlib.Core.List.{◌++◌, ◌∷◌, List, [], Memᴰ}
 use lib.Dec.{T, eqb, ltb, leb}
 use lib.ListN.{length}
@@ -55,12 +55,6 @@ pub lives : Book → Bool → List Event → ℕ → Bool
 lives k now [] l = now
 lives k now (e ∷ es) l = lives (booked k e) (opens_at k e l || (now && not (ends_at k e l))) es l
 
--- ---- Bools
-
-and_true : (a : Bool) → (a && true) ≡ a
-and_true true = refl
-and_true false = refl
-
 -- ---- presence after one event
 
 pub stay_leg : (l : ℕ) (e₀ : Entry) (es : List Entry) → any (has_leg l) (filter (remains e₀) es) ≡ (any (has_leg l) es && not (eqb l e₀.leg || is_partner l e₀.connection))
@@ -106,29 +100,29 @@ abbrev Seen : ℕ → List Entry → Request → Decision → Type 0
 Seen l es q d = any (has_leg l) (entries_after (change_of d) es) ≡ ((eqb (returned_by d) 0 && opens_leg l q) || (any (has_leg l) es && not (eqb (returned_by d) 0 && ends_leg es l q)))
 
 not_moved : (l : ℕ) (es : List Entry) (c : Refusal) (x y : Bool) → any (has_leg l) es ≡ ((eqb (refusal_number c) 0 && x) || (any (has_leg l) es && not (eqb (refusal_number c) 0 && y)))
-not_moved l es c x y = subst⁻¹ (λ (b : Bool). any (has_leg l) es ≡ ((b && x) || (any (has_leg l) es && not (b && y)))) (refusal_not_0 c) (sym (and_true (any (has_leg l) es)))
+not_moved l es c x y = subst⁻¹ (λ (b : Bool). any (has_leg l) es ≡ ((b && x) || (any (has_leg l) es && not (b && y)))) (refusal_not_0 c) (sym (and-true (any (has_leg l) es)))
 
 seen_by : {opt : Options} {z : ℤ} {w : Bool} {q : Request} {d : Decision} (l : ℕ) (es : List Entry) → Sound es → Decided opt z w es q d → Seen l es q d
 unfolding entries_after
 seen_by {q} l es s (refuses c) = not_moved l es c (opens_leg l q) (ends_leg es l q)
-seen_by {q} l es s (changes_nothing f g h) = sym (ap₂ (λ (x y : Bool). x || (any (has_leg l) es && not y)) (f l) (g l) ∙ and_true (any (has_leg l) es))
-seen_by l es s (opens_leg_lem {l = m} e f g) = ap (λ (b : Bool). eqb l m || b) (sym (and_true (any (has_leg l) es)))
-seen_by l es s (sets_state {r = r} {s = t} e h) = any_map (has_leg l) (map_connection (change_call r (with_state t))) es ∙ sym (and_true (any (has_leg l) es))
-seen_by l es s (sets_auxiliary {r = r} {a = x} e h) = any_map (has_leg l) (map_connection (change_call r (with_auxiliary x))) es ∙ sym (and_true (any (has_leg l) es))
+seen_by {q} l es s (changes_nothing f g h) = sym (ap₂ (λ (x y : Bool). x || (any (has_leg l) es && not y)) (f l) (g l) ∙ and-true (any (has_leg l) es))
+seen_by l es s (opens_leg_lem {l = m} e f g) = ap (λ (b : Bool). eqb l m || b) (sym (and-true (any (has_leg l) es)))
+seen_by l es s (sets_state {r = r} {s = t} e h) = any_map (has_leg l) (map_connection (change_call r (with_state t))) es ∙ sym (and-true (any (has_leg l) es))
+seen_by l es s (sets_auxiliary {r = r} {a = x} e h) = any_map (has_leg l) (map_connection (change_call r (with_auxiliary x))) es ∙ sym (and-true (any (has_leg l) es))
 seen_by l es s (releases {l = m} {e = e₀} i h) =
     ap (any (has_leg l)) (released e₀.leg e₀.connection es)
     ∙ stay_leg l e₀ es
     ∙ ap₂ (λ (x y : Bool). any (has_leg l) es && not (x || y)) (ap (eqb l) (sym (eqb_eq m e₀.leg h))) (joined_same s l m e₀ i h)
-seen_by l es s (assigns_link_id {p = p} {y = z} i m e h) = any_map (has_leg l) (map_connection (change_call p.call.reference.0 (with_link_id (record { 0 = z })))) es ∙ sym (and_true (any (has_leg l) es))
-seen_by l es s (transfers {p = x} {o = y} i m n h) = any_map (has_leg l) (map_connection (join_legs x.leg y.leg)) es ∙ sym (and_true (any (has_leg l) es))
-seen_by l es s (ends_alerting {l = m}) = any_map (has_leg l) (map_connection (end_alerting m)) es ∙ sym (and_true (any (has_leg l) es))
+seen_by l es s (assigns_link_id {p = p} {y = z} i m e h) = any_map (has_leg l) (map_connection (change_call p.call.reference.0 (with_link_id (record { 0 = z })))) es ∙ sym (and-true (any (has_leg l) es))
+seen_by l es s (transfers {p = x} {o = y} i m n h) = any_map (has_leg l) (map_connection (join_legs x.leg y.leg)) es ∙ sym (and-true (any (has_leg l) es))
+seen_by l es s (ends_alerting {l = m}) = any_map (has_leg l) (map_connection (end_alerting m)) es ∙ sym (and-true (any (has_leg l) es))
 
 pub seen_next : (k : Book) → Sound k.entries → (e : Event) (l : ℕ) → any (has_leg l) (booked k e).entries ≡ (opens_at k e l || (any (has_leg l) k.entries && not (ends_at k e l)))
 unfolding book_step book_after book_decision book_rules opens_at ends_at entries_after
 seen_next k s e l = go (ltb e.room 128)
   where
     go : (x : Bool) → Seen l k.entries (request e.octets) (cond x (Refuse refusal.BufferTooSmall) (book_rules k e.octets))
-    go true = sym (and_true (any (has_leg l) k.entries))
+    go true = sym (and-true (any (has_leg l) k.entries))
     go false = seen_by l k.entries s (decided k.options k.candidate (leb 64 (length k.entries)) k.entries (request e.octets))
 
 pub together_sound : {b : Board} {k : Book} → Together b k → Sound k.entries

@@ -3,7 +3,7 @@ use Rattle.std.specs.Prelude.{None, Option, Some, option_map}
 use Prim.Native.Nat.{◌≤◌, ℕ, zero-le, suc, suc-le-suc}
 use native.Mathlib.Nat.{le_step}
 use mathlib.Core.Path.{◌∙◌, ◌≡◌, ap, refl, ap₂, sym}
-use mathlib.Core.Bool.{◌||◌, Bool, cond, true, false, not}
+use mathlib.Core.Bool.{◌||◌, Bool, cond, true, false, not, or-false}
 use mathlib.Core.List.{◌∷◌, map, List, []}
 use lib.Dec.{eqb, leb, leb-suc-suc}
 use lib.Arith.{lt→nleb}
@@ -86,10 +86,6 @@ emptied_shown l o r b h es = go b r.standing h
     go false (Served c) u = same (record { leg = r.leg; connection = WithUser c }) _ true u
     go false (Joined p a) u = same (record { leg = r.leg; connection = WithPartner p a }) _ true u
 
-or_none : (b : Bool) → (b || false) ≡ b
-or_none true = refl
-or_none false = refl
-
 change_view : (c : Change) (rows : List Row) → taken (changed_rows c rows) ≡ changed_entries c (taken rows)
 unfolding changed_rows row_after
 change_view (change.SetState r s) rows = taken_map _ _ (λ x. call_shown r (with_state s) x.leg x.standing) rows
@@ -98,7 +94,7 @@ change_view (change.SetLinkId r l) rows = taken_map _ _ (λ x. call_shown r (wit
 change_view (change.Join a b) rows = taken_map _ _ (λ x. join_shown a b x.leg x.standing) rows
 change_view (change.EndAlerting l) rows = taken_map _ _ (λ x. stop_shown l x.leg x.standing) rows
 change_view (change.Release l) rows =
-    taken_filter (row_after (change.Release l)) (stays l None) (λ r es. emptied_shown l None r (eqb r.leg l) (ap not (or_none (eqb r.leg l))) es) rows
+    taken_filter (row_after (change.Release l)) (stays l None) (λ r es. emptied_shown l None r (eqb r.leg l) (ap not (or-false (eqb r.leg l))) es) rows
 change_view (change.ReleasePair l p) rows =
     taken_filter (row_after (change.ReleasePair l p)) (stays l (Some p)) (λ r es. emptied_shown l (Some p) r (eqb r.leg l || eqb r.leg p) refl es) rows
 

@@ -1,6 +1,7 @@
 -- The book, the reference model (document 01, "The book"): fed the options and each event's record and buffer length,
 -- and nothing from the board or the answers.
-use Rattle.std.specs.Prelude.{ℕ, Bool, ◌&&◌, ◌||◌, not, cond, List, [], ◌∷◌, map, eqb, leb, ltb, ℤ, pos, length, None, Option, Some}
+use Rattle.std.specs.Prelude.{ℕ, Bool, ◌&&◌, ◌||◌, not, cond, List, [], ◌∷◌, map, eqb, leb, ltb, ℤ, pos, length, None}
+use Rattle.std.specs.Prelude.{Option, Some}
 use Rattle.octets.specs.declared.LinkId.{LinkId}
 use Rattle.octets.specs.Lists.{filter}
 use Rattle.octets.specs.Numbers.{next_link_id}

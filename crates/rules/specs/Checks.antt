@@ -1,5 +1,5 @@
--- What is decided of a request: refused, or what is to be done (document 01, "Event records", checks 6 to 11; document 02, slip 5, check 12).
--- The entries are the board's rows taken, or the book's entries.
+-- What is decided of a request: refused, or what is to be done (document 01, "Event records", checks 6 to 11;
+-- document 02, slip 5, check 12). The entries are the board's rows taken, or the book's entries.
 use Rattle.std.specs.Prelude.{ℕ, Bool, true, false, ◌&&◌, cond, List, ℤ, take, None, Option, Some}
 use Rattle.octets.specs.declared.LinkId.{LinkId}
 use Rattle.octets.specs.Lists.{any, find}
@@ -176,8 +176,8 @@ abbrev pub decide_facility : Options → ℤ → List Entry → List ℕ → Opt
 decide_facility o z es c None = Refuse refusal.NoSuchCall
 decide_facility o z es c (Some p) = service_decision o p (serve o z (calls es) p (reading c))
 
--- "A SubaddressTransfer invoke .. on a joined leg is passed on unchanged to the partner, alerting or not"; "11 for a leg still with the
--- served user, then a new 12 for a component that isn't such an invoke" (document 02, slip 5)
+-- "A SubaddressTransfer invoke .. on a joined leg is passed on unchanged to the partner, alerting or not"; "11 for a
+-- leg still with the served user, then a new 12 for a component that isn't such an invoke" (document 02, slip 5)
 abbrev pub decide_passing : ℕ → List ℕ → Connection → Decision
 decide_passing n c (WithUser call) = Refuse refusal.NotPermitted
 decide_passing n c (WithPartner p a) = cond (is_subaddress_transfer (take n c)) (Accept None (passed_on_record p n c)) (Refuse refusal.NoSuchInvoke)

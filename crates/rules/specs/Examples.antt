@@ -14,7 +14,8 @@ use Rattle.rules.specs.Situations.{open_record, progress_record, hold_record, fa
 abbrev pub event : List ℕ → Event
 event os = record { octets = os; room = 128 }
 
--- two calls, the first Active and held, the second Delivered; a second Open of leg 2, which is refused; EctExecute on the first
+-- two calls, the first Active and held, the second Delivered; a second Open of leg 2, which is refused; EctExecute on
+-- the first
 abbrev pub transfer_list : List Event
 transfer_list =
     map event
@@ -57,7 +58,8 @@ leg_facility l c = event (7 ∷ 0 ∷ 0 ∷ 0 ∷ l ∷ counted c)
 
 -- after the transfer, and before it
 pub record PassingExamples : Type 0 where
-  -- leg 2, which alerts, sends its subaddress, and leg 1 gets it; a leg that is not there, and a component that is no such invoke
+  -- leg 2, which alerts, sends its subaddress, and leg 1 gets it; a leg that is not there, and a component that is no
+  -- such invoke
   pub passed_on :
       returns (board_at (fresh 1 1).board transfer_list) (leg_facility 2 subaddress_transfer ∷ leg_facility 3 subaddress_transfer ∷ leg_facility 2 ect_execute ∷ [])
       ≡ 0 ∷ 10 ∷ 12 ∷ []

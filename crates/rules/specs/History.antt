@@ -13,7 +13,8 @@ use Rattle.board.specs.declared.Change.TheVariants as change
 use Rattle.board.specs.Entries.{taken, has_leg, is_partner}
 use Rattle.board.specs.Soundness.{sound, same_link_ids, valid_options}
 use Rattle.board.specs.Making.{empty_board, fresh}
-use Rattle.events.specs.EventRecords.{request, Request, Malformed, Open, Progress, Hold, Release, Facility, Answer, LegFacility}
+use Rattle.events.specs.EventRecords.{request, Request, Malformed, Open, Progress, Hold, Release, Facility, Answer}
+use Rattle.events.specs.EventRecords.{LegFacility}
 use Rattle.rules.specs.Checks.{BoardChange, Enter, Apply, returned_by, change_of}
 use Rattle.rules.specs.Replies.{error_record, error_octets, octets}
 use Rattle.rules.specs.Step.{step, Outcome, refused}
@@ -72,7 +73,8 @@ accepted (n ∷ ns) (e ∷ es) = cond (eqb n 0) (e ∷ accepted ns es) (accepted
 
 -- ---- what an event of the history, and the book as that event finds it, say of a leg
 
--- "An accepted Open opens its leg"; "history reads such an event as neither opening nor ending anyone" (document 02, slip 5, of a Leg facility)
+-- "An accepted Open opens its leg"; "history reads such an event as neither opening nor ending anyone" (document 02,
+-- slip 5, of a Leg facility)
 abbrev pub opens_leg : ℕ → Request → Bool
 opens_leg l (Malformed c) = false
 opens_leg l (Open r m d n) = eqb l m
@@ -149,8 +151,8 @@ HasRow b l c = filter (has_leg l) (taken b.rows) ≡ record { leg = l; connectio
 abbrev pub Partners : Board → ℕ → ℕ → Type 0
 Partners b l m = ((a : Bool) × HasRow b l (WithPartner m a)) × ((a : Bool) × HasRow b m (WithPartner l a))
 
--- "Board and book agree where options and candidate are equal, each entry has one row, joined to its partner and alerting or not
--- as the entry says, or with its call in all fields, and no other row is taken."
+-- "Board and book agree where options and candidate are equal, each entry has one row, joined to its partner and
+-- alerting or not as the entry says, or with its call in all fields, and no other row is taken."
 pub record Agree (b : Board) (k : Book) : Type 0 where
   pub options : b.options ≡ k.options
   pub candidate : b.candidate.0 ≡ k.candidate
@@ -171,15 +173,18 @@ pub record WholeHistory (b : Board) (k : Book) (list : List Event) : Type 0 wher
   pub history_board : board_at b (history k list) ≡ board_at b list
   -- "at the end of the list board and book agree"
   pub agree : Agree (board_at b list) (book_at k list)
-  -- "a far party is on the board exactly when the history opened it and hasn't since ended it or the party it was joined with at that moment"
+  -- "a far party is on the board exactly when the history opened it and hasn't since ended it or the party it was
+  -- joined with at that moment"
   pub presence : (l : ℕ) → T (on_board (board_at b list) l) ↔ Lives k (history k list) l
-  -- "it has the partner, and is that one's partner, to whom a transfer has joined it since, or else one call with the served user"
+  -- "it has the partner, and is that one's partner, to whom a transfer has joined it since, or else one call with the
+  -- served user"
   pub partner : (l : ℕ) (v : Lives k (history k list) l) →
       EachSince v (λ k' e. (m : ℕ) → transfer_of k' e l ≡ Some m → Partners (board_at b list) l m)
       × (EachSince v (λ k' e. transfer_of k' e l ≡ None) → (c : Call) × HasRow (board_at b list) l (WithUser c))
   -- "no two live LinkIds are equal"
   pub link_ids : T (distinct same_link_ids (taken (board_at b list).rows))
-  -- "wherever in the list an event was answered with an error, the whole board stayed as that event found it": by the records, and by the octets
+  -- "wherever in the list an event was answered with an error, the whole board stayed as that event found it": by the
+  -- records, and by the octets
   pub errors : (before after : List Event) (e : Event) → list ≡ before ++ (e ∷ after) →
       T (any error_record (stepped (board_at b before) e).replies) → (stepped (board_at b before) e).board ≡ board_at b before
   pub errors_octets : (before after : List Event) (e : Event) → list ≡ before ++ (e ∷ after) →
@@ -195,6 +200,7 @@ pub record WholeHistory (b : Board) (k : Book) (list : List Event) : Type 0 wher
 abbrev pub Demand3Of : Options → Type 0
 Demand3Of o = T (valid_options o) → (list : List Event) → WholeHistory (empty_board o) (empty_book o) list
 
--- "For every list of events .. played into a board that begins fresh, whatever the options and reply buffers": the board that making returns
+-- "For every list of events .. played into a board that begins fresh, whatever the options and reply buffers": the
+-- board that making returns
 abbrev pub Demand3 : Type 0
 Demand3 = (s a : ℕ) (list : List Event) → WholeHistory (fresh s a).board (fresh_book s a) list

@@ -39,7 +39,8 @@ pub record PassedOn (b : Board) (body : List ℕ) (room returned : ℕ) (after :
   pub accepted : (returned ≡ 0) ↔ (Judged b body room × ((p : ℕ) × Passable b body p))
   -- "is passed on unchanged to the partner .. as reply record 0x85 with the same layout and the partner's leg"
   pub passed : (p : ℕ) → Judged b body room → Passable b body p → octets ≡ 0x85 ∷ (four p ++ drop 4 body)
-  -- "Checks: 10 for no such leg, then 11 for a leg still with the served user, then a new 12 for a component that isn't such an invoke"
+  -- "Checks: 10 for no such leg, then 11 for a leg still with the served user, then a new 12 for a component that
+  -- isn't such an invoke"
   pub no_such_leg : Judged b body room → T (not (on_board b (leg_in body))) → returned ≡ 10
   pub with_user : Judged b body room → (c : Call) → HasRow b (leg_in body) (WithUser c) → returned ≡ 11
   pub no_such_invoke : Judged b body room → (p : ℕ) (a : Bool) → HasRow b (leg_in body) (WithPartner p a) →

@@ -1,5 +1,6 @@
 -- Reply records: as data, and as octets (document 01, "Reply records", and what "Serving it" tells the far parties).
-use Rattle.std.specs.Prelude.{ℕ, Bool, true, false, ◌&&◌, ◌||◌, cond, List, [], ◌∷◌, ◌++◌, eqb, length, replicate, get_or, None, Option, Some}
+use Rattle.std.specs.Prelude.{ℕ, Bool, true, false, ◌&&◌, ◌||◌, cond, List, [], ◌∷◌, ◌++◌, eqb, length, replicate}
+use Rattle.std.specs.Prelude.{get_or, None, Option, Some}
 use Rattle.octets.specs.declared.IntegerOctets.{IntegerOctets}
 use Rattle.octets.specs.Lists.{find}
 use Rattle.octets.specs.Numbers.{two, four}
@@ -26,8 +27,9 @@ pub data ReplyRecord : Type 0 where
   -- count and octets are the event's
   PassOn : (leg count : ℕ) (octets : List ℕ) → ReplyRecord
 
--- "0x81 Reply (35): the event's reference 2, count 1, component in 32 octets, zero filled. 0x82 Tell (24): leg 4, message 1, description 1,
--- number mark 1, subaddress request 1, digit count 1, digits 15. 0x83 Drop (2): reference. 0x84 Gone (4): leg."
+-- "0x81 Reply (35): the event's reference 2, count 1, component in 32 octets, zero filled. 0x82 Tell (24): leg 4,
+-- message 1, description 1, number mark 1, subaddress request 1, digit count 1, digits 15. 0x83 Drop (2): reference.
+-- 0x84 Gone (4): leg."
 abbrev pub record_octets : ReplyRecord → List ℕ
 record_octets (Reply r a) = 0x81 ∷ (two r ++ (length (answer_octets a) ∷ filled (answer_octets a)))
 record_octets (Tell l m d n s) = 0x82 ∷ (four l ++ (m ∷ d ∷ n.mark ∷ s ∷ n.count ∷ n.digits))
@@ -77,8 +79,9 @@ abbrev pub transferred_active : ℕ
 transferred_active = 0xEA
 
 -- a leg, whether it alerts itself, whether the other does, and the other's number:
--- "Both Active: each is told FACILITY, EA, the other's number, request 1. One alerting: the Active one FACILITY, E9, mark 0, request 1;
--- the alerting one NOTIFY, EA, the other's number, request 0." Two calls that pair are never both Delivered.
+-- "Both Active: each is told FACILITY, EA, the other's number, request 1. One alerting: the Active one FACILITY, E9,
+-- mark 0, request 1; the alerting one NOTIFY, EA, the other's number, request 0." Two calls that pair are never both
+-- Delivered.
 abbrev pub told : ℕ → Bool → Bool → TellNumber → ReplyRecord
 told l false false n = Tell l facility transferred_active n 1
 told l false true n = Tell l facility transferred_alerting (mark_only 0) 1

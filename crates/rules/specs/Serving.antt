@@ -28,7 +28,8 @@ abbrev pub assign : IntegerOctets → Option ℤ → Service
 assign i None = error i 11
 assign i (Some z) = AssignLinkId (record { 0 = z }) i
 
--- "a call that has a LinkId gets it again (H). Else, with 16 live, e = 11. Else the first value not live from the candidate upward"
+-- "a call that has a LinkId gets it again (H). Else, with 16 live, e = 11. Else the first value not live from the
+-- candidate upward"
 abbrev pub new_link_id : ℕ → IntegerOctets → Option ℤ → Service
 new_link_id used i o = cond (leb most_link_ids used) (error i 11) (assign i o)
 

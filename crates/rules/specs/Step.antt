@@ -1,4 +1,5 @@
--- One event on a board: what is returned, the board afterwards, and the reply records (document 01, "Event records", "Serving it").
+-- One event on a board: what is returned, the board afterwards, and the reply records (document 01, "Event records",
+-- "Serving it").
 use Rattle.std.specs.Prelude.{ℕ, Bool, cond, List, [], ltb, None, Option, Some}
 use Rattle.octets.specs.declared.LinkId.{LinkId}
 use Rattle.octets.specs.Numbers.{next_link_id}
@@ -11,7 +12,8 @@ use Rattle.board.specs.Soundness.{sound}
 use Rattle.board.specs.Changes.{changed_rows, enter, full}
 use Rattle.events.specs.declared.Refusal.TheVariants.{BufferTooSmall, UnsoundBoard}
 use Rattle.events.specs.EventRecords.{request}
-use Rattle.rules.specs.Checks.{BoardChange, Enter, Apply, Decision, decide, returned_by, change_of, new_link_id_of, written_by}
+use Rattle.rules.specs.Checks.{BoardChange, Enter, Apply, Decision, decide, returned_by, change_of, new_link_id_of}
+use Rattle.rules.specs.Checks.{written_by}
 use Rattle.events.specs.Refusals.{refusal_number}
 use Rattle.rules.specs.Replies.{ReplyRecord, number_at}
 use Rattle.board.specs.declared.PartyNumber.{PartyNumber}
@@ -63,7 +65,8 @@ decision b os = decide b.options b.candidate.0 (full b.rows) (taken b.rows) (req
 abbrev pub done : Board → Decision → Outcome
 done b d = record { returned = returned_by d; board = board_after d b; replies = replies b.rows d }
 
--- "1: reply buffer below 128 octets"; "2: board not sound", where `tested` is the answer to that test; then the checks of the record
+-- "1: reply buffer below 128 octets"; "2: board not sound", where `tested` is the answer to that test; then the
+-- checks of the record
 unfoldable pub step_tested : Bool → Board → List ℕ → ℕ → Outcome
 step_tested tested b os room =
     cond (ltb room 128) (refused (refusal_number BufferTooSmall) b)

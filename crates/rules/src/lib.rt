@@ -23,7 +23,8 @@ pub enum Service {
     },
 }
 
-// A number as it is told: its mark, and its digits only where the mark is 1.
+// A number as it is told: its mark, which is no presentation as a `PartyNumber` has it, and its digits only where the
+// mark is 1.
 // The mark is an octet and the count stands beside 15 octets, as in the record: a caller may have any number told, and
 // kinds of marks or a bound on the count would ask more of it.
 #[derive(Clone, Copy)]

@@ -2,10 +2,11 @@
 use Rattle.std.specs.Prelude.{None, Option, Some}
 use Rattle.std.specs.List.{filter as library_filter, filter_map as library_filter_map, cons_option as library_cons}
 use Rattle.std.specs.Iterator.{AlwaysYields}
+use Rattle.std.specs.Bool.{then_some}
 use Rattle.std.specs.Option.{is_some}
 use Rattle.std.proofs.lemmas.Iterator.{YieldsList}
 use mathlib.Core.Path.{◌∙◌, refl, sym, ap, ◌≡◌, subst}
-use mathlib.Core.Bool.{true, Bool, false, cond}
+use mathlib.Core.Bool.{true, Bool, false, cond, not}
 use mathlib.Core.List.{◌∷◌, List, []}
 use Rattle.board.proofs.Searches.{calls_of_rows}
 use Rattle.board.specs.Entries.{calls, taken, row_party}
@@ -42,21 +43,14 @@ module _ {S A : Type 0} {steps : S → Option A → S → Type 0} {s : S} (t : S
   only_nowhere [] n h y = refl
   only_nowhere (x ∷ l) n h y = absurd (y.runs.0 t (subst (λ (o : Option A). steps s o t) h n))
 
-  module _ {x : A} {o : Option A} (r : Option A) (u : S) where
-    pub only_here : (l : List A) → steps s o t → o ≡ Some x → steps t r u → is_some r ≡ false → YieldsList steps (λ y. y) s l → Some x ≡ only l
-    only_here l k e n h y = go l (subst (λ (v : Option A). steps s v t) e k) y.runs r n h
-      where
-        go : (l : List A) → steps s (Some x) t → AlwaysYields steps (λ y. y) s l → (p : Option A) → steps t p u → is_some p ≡ false → Some x ≡ only l
-        go [] e y p n h = absurd (y x t e)
-        go (z ∷ []) e y p n h = ap Some (y.1 x t e).0
-        go (z ∷ (w ∷ l)) e y None n h = absurd ((y.1 x t e).1.0 u n)
-        go (z ∷ (w ∷ l)) e y (Some v) n h = absurd (true_not_false refl h)
-
-    pub only_several : (l : List A) → steps s o t → o ≡ Some x → steps t r u → is_some r ≡ true → YieldsList steps (λ y. y) s l → None ≡ only l
-    only_several l k e n h y = go l (subst (λ (v : Option A). steps s v t) e k) y.runs r n h
-      where
-        go : (l : List A) → steps s (Some x) t → AlwaysYields steps (λ y. y) s l → (p : Option A) → steps t p u → is_some p ≡ true → None ≡ only l
-        go [] e y p n h = absurd (y x t e)
-        go (z ∷ (w ∷ l)) e y p n h = refl
-        go (z ∷ []) e y None n h = absurd (true_not_false h refl)
-        go (z ∷ []) e y (Some v) n h = absurd ((y.1 x t e).1 v u n)
+  pub only_first : {x : A} {o : Option A} (r : Option A) (u : S) (l : List A) → steps s o t → o ≡ Some x → steps t r u → (b : Bool) → is_some r ≡ not b → YieldsList steps (λ y. y) s l → then_some b x ≡ only l
+  only_first {x} {o} r u l k e n b q y = go l (subst (λ (v : Option A). steps s v t) e k) y.runs r n b q
+    where
+      go : (l : List A) → steps s (Some x) t → AlwaysYields steps (λ y. y) s l → (p : Option A) → steps t p u → (b : Bool) → is_some p ≡ not b → then_some b x ≡ only l
+      go [] e y p n b q = absurd (y x t e)
+      go (z ∷ []) e y None n true q = ap Some (y.1 x t e).0
+      go (z ∷ (w ∷ l)) e y (Some v) n false q = refl
+      go (z ∷ []) e y (Some v) n b q = absurd ((y.1 x t e).1 v u n)
+      go (z ∷ (w ∷ l)) e y None n b q = absurd ((y.1 x t e).1.0 u n)
+      go (z ∷ []) e y None n false q = absurd (true_not_false q refl)
+      go (z ∷ (w ∷ l)) e y (Some v) n true q = absurd (true_not_false refl q)

@@ -21,7 +21,8 @@ use soundness::tally;
 mod pairing;
 pub mod parties;
 
-// The general errors of ETS 300 196-1 that are answered.
+// The general errors of ETS 300 196-1 that are answered. Numbers, as in an `Answer`: of an enum a definition would
+// have to give them once more.
 const NOT_SUBSCRIBED: u8 = 0;
 
 const INVALID_CALL_STATE: u8 = 7;
@@ -87,7 +88,7 @@ fn execute_explicitly(board: &Board, named: Party, identifier: IntegerOctets, id
     failed(identifier, INVALID_CALL_STATE)
 }
 
-// Board, named party and identifier stay apart: few steps take all three, and no rule speaks of them as one.
+// Board, named party and identifier stay apart, as the rules name them: no term of the rules is all three.
 // Operations are a closed set of data, on which the rules match too.
 fn perform(board: &Board, named: Party, identifier: IntegerOctets, operation: Operation) -> Service
     ensures { result ≡ performed_on board.now named identifier operation }

@@ -40,8 +40,5 @@ pub fn only_partner(board: &Board, named: Party) -> Option<Party>
         .filter_map(party_of)
         .filter(|other| is_partner(options, named, *other));
     let first = pairing.next()?;
-    if pairing.next().is_some() {
-        return None;
-    }
-    Some(first)
+    pairing.next().is_none().then_some(first)
 }

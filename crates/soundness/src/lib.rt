@@ -42,12 +42,10 @@ fn all_differ<T: PartialEq>(column: &[T]) -> bool
 }
 
 // For each low octet a place where a leg with that octet stands. It says only where to look first, which takes two
-// fifths of the instructions off the test of 64 joined rows. At most 64 legs: a place is an octet.
-fn places(legs: &[JoinedLeg]) -> [u8; 256]
-    requires { length legs.now ≤ 64 }
-{
+// fifths of the instructions off the test of 64 joined rows. A column has at most 64 legs, so a place is an octet.
+fn places(column: &ArrayVec<JoinedLeg, 64>) -> [u8; 256] {
     let mut places = [0u8; 256];
-    for (place, joined) in legs.iter().enumerate() {
+    for (place, joined) in column.as_slice().iter().enumerate() {
         places[(joined.leg % 256) as usize] = place as u8;
     }
     places
@@ -62,14 +60,13 @@ fn is_answered(a: JoinedLeg, first: u8, legs: &[JoinedLeg]) -> bool
 }
 
 // Whether each joined leg has another as its partner that is joined back to it, not both alerting.
-// At most 64 legs, for `places`.
-fn all_joined_back(legs: &[JoinedLeg]) -> bool
-    requires { length legs.now ≤ 64 }
-    ensures { result ≡ all_answered legs.now }
+fn all_joined_back(column: &ArrayVec<JoinedLeg, 64>) -> bool
+    ensures { result ≡ all_answered column.now.items }
 {
-    let places = places(legs);
+    let first = places(column);
+    let legs = column.as_slice();
     legs.iter().all(|a| a.leg != a.partner
-        && is_answered(*a, places[(a.partner % 256) as usize], legs))
+        && is_answered(*a, first[(a.partner % 256) as usize], legs))
 }
 
 // Room is asked for, not tested: a column holds 64 rows, and would have no answer to one more.
@@ -111,7 +108,7 @@ fn sound_columns(columns: &Columns) -> bool
         && all_differ(columns.references.as_slice())
         && all_differ(columns.links.as_slice())
         && columns.links.len() <= MOST_LINK_IDS
-        && all_joined_back(columns.joined.as_slice())
+        && all_joined_back(&columns.joined)
 }
 
 #[tactic(auto, using(crate::proofs::ColumnSoundness::some_gathered, crate::proofs::ColumnSoundness::none_gathered))]
@@ -129,15 +126,11 @@ pub fn sound(board: Board) -> bool
 }
 
 // What the rows count for, before joined rows are halved.
-#[tactic(auto, using(octets::proofs::Loops::step_at, octets::proofs::Loops::past_end, octets::proofs::Loops::count_step, octets::proofs::Loops::count_end, board::proofs::Rows::tally_all))]
+#[tactic(auto, using(octets::proofs::Loops::counting, board::proofs::Rows::tally_all))]
 pub fn tally(rows: &[Row]) -> Tally
     ensures { result ≡ tally_of rows.now }
 {
-    let mut tally = Tally {
-        legs: 0,
-        joined: 0,
-        links: 0,
-    };
+    let mut tally = Tally::default();
     for row in rows {
         let own = row_tally(*row);
         tally.legs += own.legs;

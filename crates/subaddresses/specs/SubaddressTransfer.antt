@@ -23,7 +23,8 @@ abbrev pub is_user_specified : Element → Bool
 is_user_specified Bad = false
 is_user_specified (Whole tag contents rest) = is_subaddress tag (length contents) && perhaps_odd_count rest
 
--- "Its argument is 04 of 1 to 20 octets, or 30 holding such an 04 and then perhaps one 01 of length 1, and nothing follows it."
+-- "Its argument is 04 of 1 to 20 octets, or 30 holding such an 04 and then perhaps one 01 of length 1, and nothing
+-- follows it."
 abbrev pub is_argument : Element → Bool
 is_argument Bad = false
 is_argument (Whole tag contents rest) =

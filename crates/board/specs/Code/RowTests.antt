@@ -1,4 +1,5 @@
--- The tests of one row, and of two, that the soundness of rows comes to: each is a test of Soundness put to the entries of rows. A row that is empty has none.
+-- The tests of one row, and of two, that the soundness of rows comes to: each is a test of Soundness put to the
+-- entries of rows. A row that is empty has none.
 use Rattle.std.specs.Prelude.{ℕ, Bool, true, ◌&&◌, ◌||◌, not, eqb, Option}
 use Rattle.octets.specs.Tests.{has, none_or, has_both}
 use Rattle.board.specs.declared.Row.{Row}

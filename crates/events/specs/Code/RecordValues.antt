@@ -6,7 +6,8 @@ use Rattle.events.specs.declared.Refusal.{Refusal}
 use Rattle.events.specs.declared.Refusal.TheVariants.{WrongLength, FieldOutOfRange}
 use Rattle.events.specs.declared.records.Request.{Request as Asked}
 use Rattle.events.specs.declared.records.Request.TheVariants as asked
-use Rattle.events.specs.EventRecords.{Request, Malformed, Open, Progress, Hold, Release, Facility, Answer, LegFacility, field}
+use Rattle.events.specs.EventRecords.{Request, Malformed, Open, Progress, Hold, Release, Facility, Answer}
+use Rattle.events.specs.EventRecords.{LegFacility, field}
 
 -- the request that an answer stands for
 abbrev pub request_read : Result Asked Refusal → Request

@@ -14,6 +14,10 @@ pub record Put (os : List ℕ) (before after : Filling) : Type 0 where
   pub place : after.at ≡ before.at + length os
   pub long : length after.buffer.now ≡ length before.buffer.now
 
+-- with room the octets were put, whatever is without
+abbrev pub PutGivenRoom : List ℕ → Filling → Filling → Type 0
+PutGivenRoom os before after = HasRoom os before → Put os before after
+
 -- with room the octets were put; without it nothing changed
 pub record PutIfRoom (os : List ℕ) (before after : Filling) : Type 0 where
   pub put : HasRoom os before → Put os before after

@@ -9,7 +9,8 @@ use Rattle.replies.specs.declared.Message.{Message}
 use Rattle.replies.specs.declared.Message.TheVariants.{Facility, Notify}
 use Rattle.replies.specs.declared.Description.{Description}
 use Rattle.replies.specs.declared.Description.TheVariants.{TransferredAlerting, TransferredActive}
-use Rattle.rules.specs.Replies.{ReplyRecord, Reply, octets, drops, told, facility, notify, transferred_alerting, transferred_active}
+use Rattle.rules.specs.Replies.{ReplyRecord, Reply, octets, drops, told, facility, notify, transferred_alerting}
+use Rattle.rules.specs.Replies.{transferred_active}
 
 -- the octets of the records, in their order
 unfoldable pub rendered : List ReplyRecord → Out

@@ -1,5 +1,5 @@
--- What rows are compared by. The rules are those of board/specs/Soundness; proofs/KeyLaws shows that rows compared by these are compared as
--- the rules say.
+-- What rows are compared by. The rules are those of board/specs/Soundness; proofs/KeyLaws shows that rows compared by
+-- these are compared as the rules say.
 use Rattle.std.specs.Prelude.{ℕ, Bool, None, Option, Some, eqb}
 use Rattle.std.specs.Ordering.{int_eq}
 use Rattle.octets.specs.declared.CallReference.{CallReference}

@@ -6,7 +6,8 @@ use Rattle.board.specs.declared.Row.{Row}
 use Rattle.board.specs.LinkIds.{most_link_ids}
 use Rattle.board.specs.Code.RowTests.{fits}
 use Rattle.row_soundness.specs.declared.keys.JoinedLeg.{JoinedLeg}
-use Rattle.row_soundness.specs.Code.RowKeys.{leg_in, reference_in, link_in, same_reference, same_link, joined_in, in_row, answers_joined}
+use Rattle.row_soundness.specs.Code.RowKeys.{leg_in, reference_in, link_in, same_reference, same_link, joined_in}
+use Rattle.row_soundness.specs.Code.RowKeys.{in_row, answers_joined}
 use Rattle.soundness.specs.declared.Columns.{Columns}
 
 module _ {A : Type 0} where

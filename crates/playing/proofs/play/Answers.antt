@@ -10,8 +10,8 @@ use Rattle.playing.specs.Log.{largest_number}
 use Rattle.playing.specs.Playing.{front_length, front, longest_line}
 use Rattle.playing.proofs.PlayingLaws.{plays_full, plays_part, plays_most, plays_end, front_none, front_some}
 use Rattle.playing.proofs.TurnLaws.{pauses, turns_on, turns_last, tells_step, stays_sound, part_of}
-use Rattle.playing.proofs.play_tested.Goals as goal
-use Rattle.playing.proofs.play_tested.Goals.{After-stops}
+use Rattle.playing.proofs.play.Goals as goal
+use Rattle.playing.proofs.play.Goals.{After-stops}
 
 abbrev piece_of : After-stops → List ℕ
 piece_of c = c.args.piece.now
@@ -49,8 +49,8 @@ returns-then-out-so_far-lt-LONGEST_LINE c =
     let l = c.loop-so_far in
     let at = l.so_far in
     let some = length-drop at.read v.piece.now in
-    pauses l.invariant.5
-    (plays_full at.board at.number (drop at.read v.piece.now) v.is_last (length v.out.now - at.written) (omega (arith, some)) (omega (arith, c.if-out-so_far-lt-LONGEST_LINE.true, l.invariant.2)))
+    rw c.paused.ensures (pauses l.invariant.5
+    (plays_full at.board at.number (drop at.read v.piece.now) v.is_last (length v.out.now - at.written) (omega (arith, some)) (omega (arith, c.if-out-so_far-lt-LONGEST_LINE.true, l.invariant.2))))
 
 pub returns-in_default : goal.returns-in_default
 returns-in_default c =
@@ -58,10 +58,10 @@ returns-in_default c =
     let l = c.loop-so_far in
     let at = l.so_far in
     let some = length-drop at.read v.piece.now in
-    pauses l.invariant.5
+    rw c.paused-in_default.ensures (pauses l.invariant.5
     (plays_part at.board at.number (drop at.read v.piece.now) v.is_last (length v.out.now - at.written) (omega (arith, some))
     (omega (arith, c.if-out-so_far-lt-LONGEST_LINE.false, l.invariant.2))
-    (front_none v.is_last (drop at.read v.piece.now) (c.in_default.ensures.is ∙ ap (front v.is_last) (rest at.read v.piece.now))))
+    (front_none v.is_last (drop at.read v.piece.now) (c.in_default.ensures.is ∙ ap (front v.is_last) (rest at.read v.piece.now)))))
 
 pub returns-then-so_far-ge18446744073709551615 : goal.returns-then-so_far-ge18446744073709551615
 returns-then-so_far-ge18446744073709551615 c =
@@ -70,9 +70,9 @@ returns-then-so_far-ge18446744073709551615 c =
     let at = l.so_far in
     let some = length-drop at.read v.piece.now in
     let f = front_some v.is_last (drop at.read v.piece.now) (c.in-Some.ensures.is ∙ ap (front v.is_last) (rest at.read v.piece.now)) in
-    pauses l.invariant.5
+    rw c.paused-then-so_far-ge18446744073709551615.ensures (pauses l.invariant.5
     (plays_most at.board at.number (drop at.read v.piece.now) v.is_last (length v.out.now - at.written) (omega (arith, some))
-    (omega (arith, c.if-out-so_far-lt-LONGEST_LINE.false, l.invariant.2)) (omega (arith, f.0, f.1)) c.if-so_far-ge18446744073709551615.true)
+    (omega (arith, c.if-out-so_far-lt-LONGEST_LINE.false, l.invariant.2)) (omega (arith, f.0, f.1)) c.if-so_far-ge18446744073709551615.true))
 
 pub returns-then-stops : goal.returns-then-stops
 returns-then-stops c =
@@ -84,9 +84,9 @@ returns-then-stops c =
     let k = (goal.at.returns-then-stops c).After-stops in
     let event = take (at.read + f - at.read) (drop at.read v.piece.now) in
     let s = tells_step at.board event l.invariant.3 t.ensures in
-    turns_last l.invariant.5 f event (take (length l.out - at.written) (drop at.written l.out)) _ t.result
+    rw c.paused-then-stops.ensures (turns_last l.invariant.5 f event (take (length l.out - at.written) (drop at.written l.out)) _ t.result
     (more k) (omega (arith, l.invariant.1, l.invariant.2)) l.invariant.2 (room_left k) (fewer k) (front_is k).0 (front_is k).1
-    (part_of at.read f v.piece.now) (rest at.written l.out) s (sym c.stops.ensures ∙ c.if-stops.true)
+    (part_of at.read f v.piece.now) (rest at.written l.out) s (sym c.stops.ensures ∙ c.if-stops.true))
 
 pub loop-so_far-preserved : goal.loop-so_far-preserved
 loop-so_far-preserved c =

@@ -1,0 +1,2 @@
+-- A law of what a change makes of rows.
+pub mod Standings
