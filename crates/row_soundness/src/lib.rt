@@ -41,6 +41,7 @@ fn call_valid(call: Call) -> bool
         && (call.auxiliary == AuxiliaryState::Idle || is_holdable(call.state))
 }
 
+#[tactic(auto, using(crate::proofs::ZeroNumber::zero_is))]
 fn empty_fits(row: Row) -> bool
     ensures { result ≡ valid_standing row.leg row.number Standing.Empty }
 {
