@@ -19,7 +19,8 @@ event os = record { octets = os; room = 128 }
 abbrev pub transfer_list : List Event
 transfer_list =
     map event
-    (open_record 1 ∷ progress_record 1 10 ∷ hold_record 1 1 ∷ hold_record 1 2 ∷ open_record 2 ∷ open_record 2 ∷ progress_record 2 4 ∷ facility_record ect_execute 1 ∷ [])
+    (open_record 1 ∷ progress_record 1 10 ∷ hold_record 1 1 ∷ hold_record 1 2
+    ∷ open_record 2 ∷ open_record 2 ∷ progress_record 2 4 ∷ facility_record ect_execute 1 ∷ [])
 
 abbrev pub answer_leg : ℕ → Event
 answer_leg l = event (6 ∷ 0 ∷ 0 ∷ 0 ∷ l ∷ [])
@@ -31,7 +32,9 @@ pub record HistoryExamples : Type 0 where
   pub returned : returns (fresh 1 1).board transfer_list ≡ 0 ∷ 0 ∷ 0 ∷ 0 ∷ 0 ∷ 6 ∷ 0 ∷ 0 ∷ []
   pub history_is :
       history (fresh_book 1 1) transfer_list
-      ≡ map event (open_record 1 ∷ progress_record 1 10 ∷ hold_record 1 1 ∷ hold_record 1 2 ∷ open_record 2 ∷ progress_record 2 4 ∷ facility_record ect_execute 1 ∷ [])
+      ≡ map event
+      (open_record 1 ∷ progress_record 1 10 ∷ hold_record 1 1 ∷ hold_record 1 2
+      ∷ open_record 2 ∷ progress_record 2 4 ∷ facility_record ect_execute 1 ∷ [])
   -- the first party is joined with the second, which alerts, on the board and in the book
   pub transferred : taken (board_at (fresh 1 1).board transfer_list).rows ≡ entry 1 (WithPartner 2 false) ∷ entry 2 (WithPartner 1 true) ∷ []
   pub transferred_book : (book_at (fresh_book 1 1) transfer_list).entries ≡ entry 2 (WithPartner 1 true) ∷ entry 1 (WithPartner 2 false) ∷ []
@@ -61,7 +64,8 @@ pub record PassingExamples : Type 0 where
   -- leg 2, which alerts, sends its subaddress, and leg 1 gets it; a leg that is not there, and a component that is no
   -- such invoke
   pub passed_on :
-      returns (board_at (fresh 1 1).board transfer_list) (leg_facility 2 subaddress_transfer ∷ leg_facility 3 subaddress_transfer ∷ leg_facility 2 ect_execute ∷ [])
+      returns (board_at (fresh 1 1).board transfer_list)
+      (leg_facility 2 subaddress_transfer ∷ leg_facility 3 subaddress_transfer ∷ leg_facility 2 ect_execute ∷ [])
       ≡ 0 ∷ 10 ∷ 12 ∷ []
   pub passed_on_octets :
       octets (stepped (board_at (fresh 1 1).board transfer_list) (leg_facility 2 subaddress_transfer)).replies

@@ -103,7 +103,9 @@ pub record Situations : Type 0 where
   -- "Candidate 32767, none live: 32767 given, then -32768 to another call."
   pub candidate_32767 : number_and_octets (with_candidate (pos 32767) (held_and_idle 2)) (facility_record ect_link_id_request 1) ≡ link_id_on 1 (pos 32767)
   pub candidate_wraps :
-      number_and_octets (after_records (with_candidate (pos 32767) (held_and_idle 2)) (facility_record ect_link_id_request 1 ∷ [])) (facility_record ect_link_id_request 2)
+      number_and_octets
+      (after_records (with_candidate (pos 32767) (held_and_idle 2)) (facility_record ect_link_id_request 1 ∷ []))
+      (facility_record ect_link_id_request 2)
       ≡ link_id_on 2 (negsuc 32767)
   -- "16 live: a seventeenth call gets e = 11"; "one of the 16 gets its value."
   pub seventeenth_call : number_and_octets sixteen_live (facility_record ect_link_id_request 17) ≡ error_on 17 11
