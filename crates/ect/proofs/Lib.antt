@@ -1,5 +1,6 @@
--- Laws that the proofs of the code cite, and over the contracts demand 3, the one answer of a board and an event, and Leg facilities.
+-- Laws that the proofs of the code cite, and over the contracts demand 3, the one answer of a board and an event, Leg facilities and Informs.
 pub mod StepLaws
 pub mod CallHistory
 pub mod OneAnswer
 pub mod PassedOn
+pub mod Informed

@@ -1,10 +1,10 @@
-// Runs cases and prints a line for each: every refusal of `step`, a transfer with a subaddress passed on, README's
-// sample, invokes that are written and read back, integers that are padded or not, and forms of subaddresses.
+// Runs cases and prints a line for each: every refusal of `step`, an Inform, a transfer with a subaddress passed on,
+// README's sample, invokes that are written and read back, integers that are padded or not, and forms of subaddresses.
 #![tactic(auto)]
 
 use board::{Board, Direction, Options};
 use ect::Stepped;
-use records::{leg_facility, open};
+use records::{inform, leg_facility, open};
 use show::Returned;
 use std::io;
 
@@ -97,7 +97,24 @@ fn on_the_board(rt: &impl Print, fresh: Board) -> io::Result<()> {
             ("Answer of a served call", b"\x06\x00\x00\x00\x01"),
             ("Leg facility of no leg", &leg_facility(2, 3)),
             ("Leg facility of a served call", &leg_facility(1, 3)),
+            ("Inform of no call", &inform(2, 1)),
+            ("Inform in state 3", &inform(1, 1)),
             ("Release", b"\x04\x00\x00\x00\x01"),
+        ],
+    )
+}
+
+// What a private exchange says of a call that is Active.
+fn informing(rt: &impl Print, fresh: Board) -> io::Result<()> {
+    let one = run(rt, fresh, "Open", &outgoing(1, 1))?;
+    let active = run(rt, one, "Progress", b"\x02\x00\x01\x0a")?;
+    run_each(
+        rt,
+        active,
+        &[
+            ("Inform, active", &inform(1, 1)),
+            ("Inform, alerting", &inform(1, 0)),
+            ("Inform with indication 02", &inform(1, 2)),
         ],
     )
 }
@@ -109,6 +126,7 @@ fn main(rt: HostRuntime) -> io::Result<()> {
     };
     before_the_board(&rt, fresh)?;
     on_the_board(&rt, fresh)?;
+    informing(&rt, fresh)?;
     transfer::ward_transfer(&rt, fresh)?;
     sample::sample(&rt)?;
     invoking::written_and_read(&rt)?;

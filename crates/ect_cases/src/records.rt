@@ -24,3 +24,11 @@ pub fn leg_facility(leg: u8, last: u8) -> [u8; 70] {
         7, 0, 0, 0, leg, 16, 0xa1, 14, 2, 1, 5, 6, 6, 4, 0, 0x82, 0x71, 1, last, 4, 1, 0x37,
     ])
 }
+
+// The Inform of the call with this reference, with this indication and the digits 21.
+pub fn inform(reference: u8, indication: u8) -> [u8; 68] {
+    padded(&[
+        8, 0, reference, 24, 0xa1, 22, 2, 1, 5, 6, 6, 4, 0, 0x82, 0x71, 1, 5, 0x30, 9, 0x0a, 1,
+        indication, 0xa0, 4, 0x80, 2, 0x32, 0x31,
+    ])
+}

@@ -14,6 +14,7 @@ use ending::{answer, release};
 use events::Refusal;
 use events::records::{Request, read_request};
 use facility::facility;
+use informing::inform;
 use octets::LinkId;
 use opening::open;
 use passing::leg_facility;
@@ -25,6 +26,7 @@ use serving::parties::{entry_at, named};
 mod call_states;
 mod ending;
 mod facility;
+mod informing;
 mod opening;
 mod passing;
 
@@ -96,6 +98,7 @@ pub fn effect_of(board: &Board, event: &[u8]) -> Result<Effect, Refusal>
         Request::LegFacility(leg, count, octets) => {
             leg_facility(entry_at(&board.rows, leg), count, *octets)
         }
+        Request::Inform(reference, component) => inform(named(&board.rows, reference), component),
     }
 }
 

@@ -24,6 +24,7 @@ pub data Request : Type 0 where
   Answer : (leg : ℕ) → Request
   -- the component is the first `count` of the octets
   LegFacility : (leg count : ℕ) (octets : List ℕ) → Request
+  Inform : (reference : ℕ) (component : List ℕ) → Request
 
 -- the number in n octets from place i of a body
 abbrev pub field : ℕ → ℕ → List ℕ → ℕ
@@ -55,6 +56,10 @@ valid_component most n c = leb 1 n && leb n most && zeros (drop n c)
 abbrev pub facility_body : ℕ → ℕ → List ℕ → Request
 facility_body r n c = cond (valid_component 32 n c) (Facility r (take n c)) (Malformed FieldOutOfRange)
 
+-- "reference 2, count 1 of 1 to 64, component, zeros" (document 02, slip 6)
+abbrev pub inform_body : ℕ → ℕ → List ℕ → Request
+inform_body r n c = cond (valid_component 64 n c) (Inform r (take n c)) (Malformed FieldOutOfRange)
+
 -- "leg 4, count 1 of 1 to 64, component, zeros" (document 02, slip 5); the component and the zeros end the body
 abbrev pub leg_facility_body : List ℕ → Request
 leg_facility_body b = LegFacility (field 0 4 b) (get_or b 4 0) (drop 5 b)
@@ -69,6 +74,7 @@ in_range (Release l) = true
 in_range (Facility r c) = valid_reference r
 in_range (Answer l) = true
 in_range (LegFacility l n c) = eqb (length c) 64 && valid_component 64 n c
+in_range (Inform r c) = valid_reference r
 
 -- "5: a field outside its range, fill octets included"
 abbrev pub ranged : Request → Request
@@ -88,7 +94,8 @@ of_kind k b =
     (cond (eqb k 5) (sized 5 b (facility_body (field 0 2 b) (get_or b 2 0) (drop 3 b)))
     (cond (eqb k 6) (sized 6 b (Answer (field 0 4 b)))
     (cond (eqb k 7) (sized 7 b (leg_facility_body b))
-    (Malformed UnknownKind)))))))
+    (cond (eqb k 8) (sized 8 b (inform_body (field 0 2 b) (get_or b 2 0) (drop 3 b)))
+    (Malformed UnknownKind))))))))
 
 -- the kind, then the body; "3: record empty"
 unfoldable pub request : List ℕ → Request

@@ -23,8 +23,10 @@ const FACILITY: usize = 35;
 
 const LEG_FACILITY: usize = 69;
 
-// What a record asks for. A Facility has its component, a Leg facility its count and all 64 octets, as they are
-// passed on with their zeros. A closed set of data, on which the definitions match too.
+const INFORM: usize = 67;
+
+// What a record asks for. A Facility and an Inform have their component, a Leg facility its count and all 64 octets, as
+// they are passed on with their zeros. A closed set of data, on which the definitions match too.
 #[derive(Clone, Copy)]
 pub enum Request<'a> {
     Open {
@@ -39,6 +41,7 @@ pub enum Request<'a> {
     Facility(CallReference, &'a [u8]),
     Answer(u32),
     LegFacility(u32, u8, &'a [u8; 64]),
+    Inform(CallReference, &'a [u8]),
 }
 
 // How many octets a record has: its kind, and the body that its kind has; of a kind that is not listed the kind alone.
@@ -52,6 +55,7 @@ pub fn record_length(kind: u8) -> usize
         4 | 6 => LEG,
         5 => FACILITY,
         7 => LEG_FACILITY,
+        8 => INFORM,
         _ => 0,
     };
     1 + body
@@ -160,6 +164,19 @@ fn read_leg_facility(body: &[u8]) -> Result<Request<'_>, Refusal>
     Ok(Request::LegFacility(u32::from_be_bytes([l0, l1, l2, l3]), count, octets))
 }
 
+fn read_inform(body: &[u8]) -> Result<Request<'_>, Refusal>
+    ensures { request_read result ≡ of_kind 8 body.now }
+{
+    let body = sized::<INFORM>(body)?;
+    let [r0, r1, count, ..] = *body;
+    let octets: &[u8; 64] = body.last_chunk().unwrap();
+    let reference = read_reference([r0, r1])?;
+    if !valid_component(count, octets) {
+        return Err(Refusal::FieldOutOfRange);
+    }
+    Ok(Request::Inform(reference, &octets[..usize::from(count)]))
+}
+
 // A kind stays an octet, here and in `record_length`: an enum's cases and its TryFrom would stand beside these two
 // matches, and neither would go.
 fn read_body(kind: u8, body: &[u8]) -> Result<Request<'_>, Refusal>
@@ -173,6 +190,7 @@ fn read_body(kind: u8, body: &[u8]) -> Result<Request<'_>, Refusal>
         5 => read_facility(body),
         6 => Ok(Request::Answer(read_leg(body)?)),
         7 => read_leg_facility(body),
+        8 => read_inform(body),
         _ => Err(Refusal::UnknownKind),
     }
 }

@@ -7,7 +7,7 @@ use Rattle.elements.specs.Elements.{first_element, siblings, whole_elements}
 use Rattle.component.specs.Arguments.{behind_operation, identified_in, arguments_in}
 use Rattle.private_transfers.specs.declared.Indication.{Indication}
 use Rattle.private_transfers.specs.declared.Indication.TheVariants.{Alerting, Active}
-use Rattle.private_transfers.specs.EctInform.{Number, NotSent, Restricted, Given, Inform, inform_in}
+use Rattle.private_transfers.specs.EctInform.{Number, NotSent, Restricted, Given, EctInform, inform_in}
 
 -- an invoke of this length, with identifier 5 and the object identifier that ends in `last`
 invoke : ℕ → ℕ → List ℕ → List ℕ
@@ -17,7 +17,7 @@ invoke n last argument = 0xA1 ∷ n ∷ 0x02 ∷ 0x01 ∷ 0x05 ∷ 0x06 ∷ 0x06
 fifteen : List ℕ → List ℕ
 fifteen s = 0x31 ∷ 0x32 ∷ 0x33 ∷ 0x34 ∷ 0x35 ∷ 0x36 ∷ 0x37 ∷ 0x38 ∷ 0x39 ∷ 0x30 ∷ 0x31 ∷ 0x32 ∷ 0x33 ∷ 0x34 ∷ 0x35 ∷ s
 
-abbrev says : Indication → Number → Option Inform
+abbrev says : Indication → Number → Option EctInform
 says i n = Some (record { indication = i; number = n })
 
 -- the digits 21

@@ -1,8 +1,8 @@
--- A redirection number that is given has 1 to 15 digits. Assumes nothing.
+-- A redirection number that is given has 1 to 15 digits, by definition and as the reader lends it. Assumes nothing.
 use Prim.{tt}
 use Rattle.std.specs.Prelude.{None, Option, Some, IfSome, ⊤}
-use Prim.Native.Nat.{ℕ, ◌≤◌}
-use mathlib.Core.Path.{◌≡◌, refl}
+use Prim.Native.Nat.{ℕ, ◌≤◌, zero-le}
+use mathlib.Core.Path.{◌≡◌, refl, sym}
 use mathlib.Core.Bool.{Bool, true, false, ◌&&◌, cond}
 use mathlib.Core.List.{List, [], ◌∷◌}
 use lib.Dec.{eqb, leb}
@@ -12,8 +12,12 @@ use Rattle.octets.specs.Lists.{all}
 use Rattle.digits.specs.Digits.{is_digit}
 use Rattle.elements.specs.Elements.{Element, Bad, Whole, first_element, no_octets}
 use Rattle.component.specs.Arguments.{arguments_in}
+use Rattle.private_transfers.specs.declared.EctInform.{EctInform as Said}
 use Rattle.private_transfers.specs.declared.Indication.{Indication}
-use Rattle.private_transfers.specs.EctInform.{Number, NotSent, Restricted, Given, Inform, are_digits, digits_in, number_element, number_in, indicated, inform_of, inform_by, inform_held, inform_argument, inform_behind, inform_in}
+use Rattle.private_transfers.specs.declared.RedirectionNumber.{RedirectionNumber}
+use Rattle.private_transfers.specs.declared.RedirectionNumber.TheVariants as redirection
+use Rattle.private_transfers.specs.Code.Readers.{number_said, inform_read, digit_count}
+use Rattle.private_transfers.specs.EctInform.{Number, NotSent, Restricted, Given, EctInform, are_digits, digits_in, number_element, number_in, indicated, inform_of, inform_by, inform_held, inform_argument, inform_behind, inform_in}
 
 -- a number's digits, where it is given: so many, and each a digit
 abbrev pub IsLong : Number → Type 0
@@ -25,10 +29,10 @@ either_number : (b : Bool) (x y : Option Number) → IfSome x IsLong → IfSome 
 either_number true x y p q = p
 either_number false x y p q = q
 
-abbrev Long : Option Inform → Type 0
-Long o = IfSome o (λ (i : Inform). IsLong i.number)
+abbrev Long : Option EctInform → Type 0
+Long o = IfSome o (λ (i : EctInform). IsLong i.number)
 
-either : (b : Bool) (x y : Option Inform) → Long x → Long y → Long (cond b x y)
+either : (b : Bool) (x y : Option EctInform) → Long x → Long y → Long (cond b x y)
 either true x y p q = p
 either false x y p q = q
 
@@ -81,6 +85,15 @@ behind_long : (o : Option (List ℕ)) → Long (inform_behind o)
 behind_long None = tt
 behind_long (Some rest) = argument_long (first_element rest)
 
-pub number_long : (c : List ℕ) → IfSome (inform_in c) (λ (i : Inform). IsLong i.number)
+pub number_long : (c : List ℕ) → IfSome (inform_in c) (λ (i : EctInform). IsLong i.number)
 unfolding inform_in
 number_long c = behind_long (arguments_in 0x05 c)
+
+-- what the reader lends has 15 digits at most
+pub few_digits : (c : List ℕ) (i : Said) → inform_read (Some i) ≡ inform_in c → digit_count i.number ≤ 15
+few_digits c i h = of_number i.number (rw (sym h) at (number_long c))
+  where
+    of_number : (n : RedirectionNumber) → IsLong (number_said n) → digit_count n ≤ 15
+    of_number redirection.NotSent l = zero-le
+    of_number redirection.Restricted l = zero-le
+    of_number (redirection.Given digits) l = l.1

@@ -41,7 +41,7 @@ number_in (x ∷ s) = number_element (first_element (x ∷ s))
 -- ---- the argument
 
 -- how the other call stands, and its party's number
-pub record Inform : Type 0 where
+pub record EctInform : Type 0 where
   pub indication : Indication
   pub number : Number
 
@@ -50,31 +50,31 @@ abbrev pub indicated : ℕ → Option Indication
 indicated o = cond (eqb o 0) (Some Alerting) (cond (eqb o 1) (Some Active) None)
 
 -- an indication and a number, where both are right
-abbrev pub inform_of : Option Indication → Option Number → Option Inform
+abbrev pub inform_of : Option Indication → Option Number → Option EctInform
 inform_of None n = None
 inform_of (Some i) None = None
 inform_of (Some i) (Some n) = Some (record { indication = i; number = n })
 
 -- the contents of the 0A, one octet, and what follows it
-abbrev pub inform_by : List ℕ → List ℕ → Option Inform
+abbrev pub inform_by : List ℕ → List ℕ → Option EctInform
 inform_by [] rest = None
 inform_by (o ∷ []) rest = inform_of (indicated o) (number_in rest)
 inform_by (o ∷ p ∷ s) rest = None
 
 -- what the 30 holds
-abbrev pub inform_held : Element → Option Inform
+abbrev pub inform_held : Element → Option EctInform
 inform_held Bad = None
 inform_held (Whole tag contents rest) = cond (eqb tag 0x0A) (inform_by contents rest) None
 
 -- "The argument is 30 holding 0A 01 00 (alerting) or 0A 01 01 (active), then perhaps one element ..; nothing else follows."
-abbrev pub inform_argument : Element → Option Inform
+abbrev pub inform_argument : Element → Option EctInform
 inform_argument Bad = None
 inform_argument (Whole tag contents rest) = cond (eqb tag 0x30 && no_octets rest) (inform_held (first_element contents)) None
 
-abbrev pub inform_behind : Option (List ℕ) → Option Inform
+abbrev pub inform_behind : Option (List ℕ) → Option EctInform
 inform_behind None = None
 inform_behind (Some rest) = inform_argument (first_element rest)
 
 -- "an EctInform invoke (identifier ending 05 ..)"
-unfoldable pub inform_in : List ℕ → Option Inform
+unfoldable pub inform_in : List ℕ → Option EctInform
 inform_in c = inform_behind (arguments_in 0x05 c)

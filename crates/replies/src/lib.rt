@@ -3,7 +3,7 @@
 
 ghost use Rattle.std.specs.Prelude.{◌≡◌, [], ◌∷◌, ◌++◌, ◌+◌, ◌≤◌, length};
 ghost use Rattle.rules.specs.Replies.{Reply, Tell, Drop, Gone, PassOn, record_octets, mark_only, number_as_told, told};
-ghost use Rattle.rules.specs.Replies.{facility, transferred_active};
+ghost use Rattle.rules.specs.Replies.{facility, transferred_active, given, inform_record};
 ghost use Rattle.replies.specs.Code.Writing.{rendered, transfer_records};
 ghost use Rattle.replies.specs.Code.Writing.{message_number, description_number, request_number};
 
@@ -13,6 +13,7 @@ use arrayvec::ArrayVec;
 use board::PartyNumber;
 use component::{Answer, encode};
 use octets::{CallReference, IntegerOctets};
+use private_transfers::Indication;
 use rules::TellNumber;
 
 // The message in which a far party is told.
@@ -68,6 +69,24 @@ pub fn unknown() -> TellNumber
     mark_only(UNKNOWN)
 }
 
+// A number whose digits are restricted.
+pub fn withheld() -> TellNumber
+    ensures { result ≡ mark_only 2 }
+{
+    mark_only(WITHHELD)
+}
+
+// A number of so many digits.
+pub fn given(count: u8, digits: [u8; 15]) -> TellNumber
+    ensures { result ≡ given count digits }
+{
+    TellNumber {
+        mark: GIVEN,
+        count,
+        digits,
+    }
+}
+
 // A far party's number as it is told. Digits that are restricted are withheld, so they never reach the octets.
 pub fn number_as_told(number: PartyNumber) -> TellNumber
     ensures { result ≡ number_as_told number }
@@ -76,15 +95,9 @@ pub fn number_as_told(number: PartyNumber) -> TellNumber
         return unknown();
     }
     if number.presentation == 1 {
-        return mark_only(WITHHELD);
+        return withheld();
     }
-    // A variable: an array field is not borrow checked where it goes into a literal straight.
-    let digits = number.digits;
-    TellNumber {
-        mark: GIVEN,
-        count: number.count,
-        digits,
-    }
+    given(number.count, number.digits)
 }
 
 // A record of its head and of octets that come with their zeros.
@@ -229,6 +242,18 @@ pub fn pass_on(partner: u32, count: u8, component: [u8; 64]) -> Out
     ensures { result ≡ rendered (PassOn partner count component ∷ []) }
 {
     nothing().with(&pass_on_record(partner, count, component))
+}
+
+// What a private exchange says of a call, told to its far party. While the other call alerts the number is ignored.
+#[tactic(auto, unfolding(crate::specs::Code::Writing::rendered, rules::specs::Replies::octets))]
+pub fn inform_told(leg: u32, indication: Indication, number: TellNumber) -> Out
+    ensures { result ≡ rendered (inform_record leg indication number ∷ []) }
+{
+    let record = match indication {
+        Indication::Alerting => tell_record(leg, Notify, TransferredAlerting, unknown(), false),
+        Indication::Active => tell_record(leg, Facility, TransferredActive, number, true),
+    };
+    nothing().with(&record)
 }
 
 // The five records of a transfer, the Reply on the reference of the event.

@@ -14,7 +14,7 @@ use Rattle.board.specs.declared.Entry.{Entry}
 use Rattle.board.specs.declared.Party.{Party}
 use Rattle.board.specs.Entries.{has_leg, has_reference, calls, has_party_reference, link_id_in, has_party_link_id}
 use Rattle.board.specs.LinkIds.{free_link_id, live, most_link_ids}
-use Rattle.board.specs.States.{holdable}
+use Rattle.board.specs.States.{active, holdable}
 use Rattle.board.specs.declared.AuxiliaryState.{AuxiliaryState}
 use Rattle.board.specs.declared.CallState.{CallState}
 use Rattle.board.specs.declared.Direction.{Direction}
@@ -25,13 +25,14 @@ use Rattle.component.specs.declared.Operation.TheVariants.{EctExecute, ExplicitE
 use Rattle.component.specs.declared.Reading.{Reading}
 use Rattle.component.specs.declared.Reading.TheVariants.{Ignored, Rejected, Invoked}
 use Rattle.subaddresses.specs.SubaddressTransfer.{is_subaddress_transfer}
-use Rattle.rules.specs.Checks.{decide, Decision, Refuse, Accept, accept, opening, named, may_progress, may_hold, release_of, service_decision, decide_open, decide_progress, decide_hold, entry_at, decide_release, decide_facility, decide_alerting, decide_answer, decide_passing, decide_leg_facility}
+use Rattle.private_transfers.specs.EctInform.{EctInform, inform_in}
+use Rattle.rules.specs.Checks.{decide, Decision, Refuse, Accept, accept, opening, named, may_progress, may_hold, release_of, service_decision, decide_open, decide_progress, decide_hold, entry_at, decide_release, decide_facility, decide_alerting, decide_answer, decide_passing, decide_leg_facility, decide_informing, decide_inform}
 use Rattle.rules.specs.History.{opens_leg, ends_leg}
 use Rattle.rules.specs.Replies.{Written, nothing, release_replies, answer_told, passed_on_record}
-use Rattle.rules.proofs.Lengths.{Short, nothing_short, reply_short, passed_short}
+use Rattle.rules.proofs.Lengths.{Short, nothing_short, reply_short, passed_short, inform_short}
 use Rattle.board.specs.declared.Change.TheVariants as change
 use Rattle.events.specs.Refusals.{refusal_number}
-use Rattle.events.specs.EventRecords.{Answer, Request, Open, Progress, Hold, Release, Facility, LegFacility, Malformed, in_range}
+use Rattle.events.specs.EventRecords.{Answer, Request, Open, Progress, Hold, Release, Facility, LegFacility, Inform, Malformed, in_range}
 use Rattle.rules.specs.Serving.{Service, Silent, Respond, assign, AssignLinkId, partner_for, Transfer, execute, execute_explicitly, error, new_link_id, link_id_request, perform, serve}
 use Rattle.events.specs.declared.Refusal.{Refusal}
 use Rattle.octets.proofs.Lists.{filter_mem, only_mem, find_mem}
@@ -182,6 +183,18 @@ module _ (opt : Options) (z : ℤ) (w : Bool) (es : List Entry) where
   leg_facility_is l n c None = refuses _
   leg_facility_is l n c (Some e) = passing_is l n c e.connection
 
+  informing_is : (r : ℕ) (c : List ℕ) (l : ℕ) (o : Option EctInform) → Decided (Inform r c) (decide_informing l o)
+  informing_is r c l None = refuses _
+  informing_is r c l (Some i) = changes_nothing (λ m. refl) (λ m. refl) (λ h. inform_short l i)
+
+  inform_is : (r : ℕ) (c : List ℕ) (o : Option Party) → Decided (Inform r c) (decide_inform c o)
+  inform_is r c None = refuses _
+  inform_is r c (Some p) = go (active p.call)
+    where
+      go : (b : Bool) → Decided (Inform r c) (cond b (decide_informing p.leg (inform_in c)) (Refuse refusal.NotPermitted))
+      go true = informing_is r c p.leg (inform_in c)
+      go false = refuses _
+
   pub decided : (q : Request) → Decided q (decide opt z w es q)
   unfolding decide
   decided (Malformed c) = refuses c
@@ -192,3 +205,4 @@ module _ (opt : Options) (z : ℤ) (w : Bool) (es : List Entry) where
   decided (Facility r c) = facility_is r c (named r es) refl
   decided (Answer l) = answer_is l (entry_at l es)
   decided (LegFacility l n c) = leg_facility_is l n c (entry_at l es)
+  decided (Inform r c) = inform_is r c (named r es)

@@ -5,15 +5,18 @@ use mathlib.Core.Path.{◌≡◌, refl}
 use mathlib.Core.Bool.{◌&&◌, true, false, Bool}
 use mathlib.Core.List.{◌++◌, ◌∷◌, List, []}
 use lib.Dec.{eqb, leb}
-use lib.ListN.{length, take, length-append, replicate, length-replicate}
+use lib.ListN.{length, take, length-take, length-append, replicate, length-replicate}
 use Rattle.octets.proofs.Lists.{eqb_eq, left}
 use Rattle.octets.specs.Lists.{all}
 use Rattle.board.specs.Soundness.{valid_digits}
 use Rattle.component.proofs.Length.{answer_length}
 use Rattle.events.specs.EventRecords.{LegFacility, in_range, valid_component}
+use Rattle.private_transfers.specs.declared.Indication.{Indication}
+use Rattle.private_transfers.specs.declared.Indication.TheVariants.{Alerting, Active}
+use Rattle.private_transfers.specs.EctInform.{Number, NotSent, Restricted, Given, EctInform}
 use Rattle.component.specs.Answers.{answer_octets}
 use Rattle.component.specs.declared.Answer.{Answer}
-use Rattle.rules.specs.Replies.{record_octets, Reply, Tell, PassOn, TellNumber, told, ReplyRecord, octets, drops, Written, nothing, replied, passed_on_record}
+use Rattle.rules.specs.Replies.{record_octets, Reply, Tell, PassOn, TellNumber, told, ReplyRecord, octets, drops, Written, nothing, replied, passed_on_record, number_as_received, inform_record, inform_told}
 
 pub reply_length : (r : ℕ) (a : Answer) → length (record_octets (Reply r a)) ≡ 36
 reply_length r a =
@@ -79,3 +82,16 @@ passed_short p l n c k = record {
 pub tell_short : (l m d : ℕ) (number : (ℕ → TellNumber) → TellNumber) (s : ℕ) → ((numbers : ℕ → TellNumber) → ((l : ℕ) → length (numbers l).digits ≡ 15) → length (number numbers).digits ≡ 15) →
     Short (λ numbers. Tell l m d (number numbers) s ∷ [])
 tell_short l m d number s h = record { fits = λ numbers k. omega (arith, h numbers k, one_length (Tell l m d (number numbers) s)) }
+
+-- what a private exchange says of a call; no number of a row is told
+pub inform_short : (l : ℕ) (i : EctInform) → Short (inform_told l i)
+inform_short l i = record { fits = λ numbers k. told i.indication (number_as_received i.number) (received_length i.number) }
+  where
+    received_length : (n : Number) → length (number_as_received n).digits ≡ 15
+    received_length NotSent = refl
+    received_length Restricted = refl
+    received_length (Given ds) = omega (arith, length-take 15 (ds ++ replicate 15 0), length-append ds (replicate 15 0))
+
+    told : (x : Indication) (n : TellNumber) → length n.digits ≡ 15 → length (octets (inform_record l x n ∷ [])) ≤ 92
+    told Alerting n h = omega (arith, h, one_length (inform_record l Alerting n))
+    told Active n h = omega (arith, h, one_length (inform_record l Active n))

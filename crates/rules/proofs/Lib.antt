@@ -14,5 +14,7 @@ pub mod SoundKept
 pub mod WholeHistory
 pub mod Room
 pub mod Situations
+pub mod SingleEvents
 pub mod PassedOn
+pub mod Informed
 pub mod Examples

@@ -21,8 +21,8 @@ use Rattle.component.specs.declared.Operation.{Operation}
 use Rattle.component.specs.declared.Operation.TheVariants.{EctExecute, ExplicitEctExecute, EctLinkIdRequest}
 use Rattle.component.specs.declared.Reading.{Reading}
 use Rattle.component.specs.declared.Reading.TheVariants.{Ignored, Rejected, Invoked}
-use Rattle.rules.specs.Checks.{named, decide, entry_at, decide_facility, service_decision, decide_open, opening, decide_progress, decide_hold, decide_release, decide_answer, decide_leg_facility}
-use Rattle.events.specs.EventRecords.{Request, Facility, Malformed, Open, Progress, Hold, Release, Answer, LegFacility}
+use Rattle.rules.specs.Checks.{named, decide, entry_at, decide_facility, service_decision, decide_open, opening, decide_progress, decide_hold, decide_release, decide_answer, decide_leg_facility, decide_inform}
+use Rattle.events.specs.EventRecords.{Request, Facility, Malformed, Open, Progress, Hold, Release, Answer, LegFacility, Inform}
 use Rattle.rules.specs.Serving.{link_id_request, new_link_id, perform, execute, partner_for, execute_explicitly, serve, if_subscribed}
 use Rattle.octets.proofs.Lists.{filter_filter_map_le, Perm, length_perm, filter_map_perm, any_perm, only_perm, filter_perm, find_perm}
 use Rattle.octets.specs.Lists.{filter, any}
@@ -93,3 +93,4 @@ decide_perm v h opt z full (Release l) = ap decide_release (entry_perm v h l)
 decide_perm {l = es} {m = fs} v h opt z full (Facility r c) = service_perm v h opt z c (named r es) ∙ ap (decide_facility opt z fs c) (named_perm v h r)
 decide_perm v h opt z full (Answer l) = ap (decide_answer opt l) (entry_perm v h l)
 decide_perm v h opt z full (LegFacility l n c) = ap (decide_leg_facility n c) (entry_perm v h l)
+decide_perm v h opt z full (Inform r c) = ap (decide_inform c) (named_perm v h r)

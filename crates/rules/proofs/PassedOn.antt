@@ -6,14 +6,12 @@ use borrow.Author.Tests.{ltb-true, ltb-false, eqb-true, eqb-false, eq-eqb}
 use mathlib.Core.Path.{◌≡◌, refl, sym, ap, ◌∙◌}
 use mathlib.Core.Bool.{Bool, true, false, not, cond}
 use mathlib.Core.List.{List, [], ◌∷◌, ◌++◌, append-nil}
-use lib.Dec.{eqb, leb, ltb, T}
+use lib.Dec.{eqb, ltb, T}
 use lib.Seq.{drop-cons}
-use lib.ListN.{length, drop, length-drop}
-use Rattle.octets.proofs.Lists.{true_not_false, right, is_true, from_true, is_not, find_mem, find_filter, head_of, small_one, mem_filter, any_of, both, eqb_eq}
-use Rattle.octets.specs.Lists.{all, filter}
+use lib.ListN.{length, take, drop, length-drop}
+use Rattle.octets.proofs.Lists.{true_not_false, right, is_true, from_true, is_not, find_mem, any_of, both}
 use Rattle.octets.specs.Numbers.{four}
 use Rattle.subaddresses.specs.SubaddressTransfer.{is_subaddress_transfer}
-use Rattle.board.proofs.SoundEntries.{Sound, sound_of, legs_one}
 use Rattle.board.specs.declared.Board.{Board}
 use Rattle.board.specs.declared.Call.{Call}
 use Rattle.board.specs.declared.Connection.{Connection}
@@ -21,33 +19,18 @@ use Rattle.board.specs.declared.Connection.TheVariants.{WithUser, WithPartner}
 use Rattle.board.specs.declared.Entry.{Entry}
 use Rattle.board.specs.Changes.{full}
 use Rattle.board.specs.Entries.{entry, taken, has_leg}
-use Rattle.board.specs.Soundness.{sound, sound_rows, sound_entries, valid_row, valid_options}
-use Rattle.events.specs.declared.Refusal.{Refusal}
+use Rattle.board.specs.Soundness.{sound}
 use Rattle.events.specs.declared.Refusal.TheVariants as refusal
 use Rattle.events.specs.Refusals.{refusal_number}
 use Rattle.events.specs.EventRecords.{Request, Malformed, LegFacility, request, in_range, valid_component}
-use Rattle.rules.specs.Book.{Book, book_step, book_after, book_decision, book_rules, entries_after, candidate_moves}
-use Rattle.rules.specs.Checks.{BoardChange, Refuse, Accept, decide, decide_passing, decide_leg_facility, entry_at, change_of}
-use Rattle.rules.specs.History.{opens, ends, opens_leg, ends_leg, transfer_of, joined_by, on_board, HasRow}
-use Rattle.rules.specs.PassedOn.{leg_in, count_in, component_in, Judged, PassedOn, MovesNobody}
+use Rattle.rules.specs.Book.{Book}
+use Rattle.rules.specs.Checks.{Refuse, Accept, decide, decide_passing, decide_leg_facility, entry_at, change_of}
+use Rattle.rules.specs.History.{on_board, HasRow}
+use Rattle.rules.specs.SingleEvents.{MovesNobody}
+use Rattle.rules.specs.PassedOn.{leg_in, count_in, component_in, Judged, PassedOn}
+use Rattle.rules.proofs.SingleEvents.{row_entry_lem, entry_row, Still, malformed_still, either_still, still_moves_nobody}
 use Rattle.rules.specs.Replies.{octets, passed_on_record, number_at}
 use Rattle.rules.specs.Step.{Outcome, step, step_tested, decision, refused, done, board_after, rows_after, candidate_after, replies}
-
--- ---- the row of a leg, and its entry
-
-sound_entries_lem : (b : Board) → sound b ≡ true → Sound (taken b.rows)
-unfolding sound sound_rows
-sound_entries_lem b s = sound_of (taken b.rows) (right (all valid_row b.rows) (sound_entries (taken b.rows)) (right (valid_options b.options) _ s))
-
-row_entry_lem : (b : Board) (l : ℕ) (t : Connection) → HasRow b l t → entry_at l (taken b.rows) ≡ Some (entry l t)
-unfolding head_of
-row_entry_lem b l t h = find_filter (has_leg l) (taken b.rows) ∙ ap head_of h
-
-entry_row : (b : Board) (l : ℕ) {e : Entry} → sound b ≡ true → entry_at l (taken b.rows) ≡ Some e → HasRow b l e.connection
-entry_row b l {e} s h =
-    let m = find_mem (has_leg l) (taken b.rows) h in
-    let r = small_one (filter (has_leg l) (taken b.rows)) (legs_one l (sound_entries_lem b s)) (mem_filter (has_leg l) m.0 m.1) in
-    r ∙ ap (λ (n : ℕ). entry n e.connection ∷ []) (sym (eqb_eq l e.leg m.1))
 
 -- ---- what is decided
 
@@ -187,43 +170,26 @@ module _ (b : Board) (body : List ℕ) (room : ℕ) where
 
 -- ---- nobody is opened, ended or joined
 
-module _ (k : Book) (body : List ℕ) (room : ℕ) where
-  changes_none : change_of (book_decision k (7 ∷ body) room) ≡ None
-  unfolding book_decision book_rules request decide
-  changes_none = go (ltb room 128) (eqb (length body) 69) (in_range (LegFacility (leg_in body) (count_in body) (drop 5 body)))
-    where
-      connected_none : (t : Connection) → change_of (decide_passing (count_in body) (drop 5 body) t) ≡ None
-      connected_none (WithUser c) = refl
-      connected_none (WithPartner p a) = either (is_subaddress_transfer (component_in body))
-        where
-          either : (x : Bool) → change_of (cond x (Accept None (passed_on_record p (count_in body) (drop 5 body))) (Refuse refusal.NoSuchInvoke)) ≡ None
-          either true = refl
-          either false = refl
+leg_facility_still : (l n : ℕ) (c : List ℕ) → Still (LegFacility l n c)
+unfolding decide
+leg_facility_still l n c = record { changes_none = λ o z full es. entered_none (entry_at l es); opens_none = λ m. refl; ends_none = λ es m. refl }
+  where
+    either : (p : ℕ) (x : Bool) → change_of (cond x (Accept None (passed_on_record p n c)) (Refuse refusal.NoSuchInvoke)) ≡ None
+    either p true = refl
+    either p false = refl
 
-      entered_none : (o : Option Entry) → change_of (decide_leg_facility (count_in body) (drop 5 body) o) ≡ None
-      entered_none None = refl
-      entered_none (Some e) = connected_none e.connection
+    connected_none : (t : Connection) → change_of (decide_passing n c t) ≡ None
+    connected_none (WithUser call) = refl
+    connected_none (WithPartner p a) = either p (is_subaddress_transfer (take n c))
 
-      go : (x z w : Bool) → change_of (cond x (Refuse refusal.BufferTooSmall) (decide k.options k.candidate (leb 64 (length k.entries)) k.entries (asked body z w))) ≡ None
-      go true z w = refl
-      go false false w = refl
-      go false true false = refl
-      go false true true = entered_none (entry_at (leg_in body) k.entries)
+    entered_none : (o : Option Entry) → change_of (decide_leg_facility n c o) ≡ None
+    entered_none None = refl
+    entered_none (Some e) = connected_none e.connection
 
-  asks_for : (test : Request → Bool) → ((c : Refusal) → test (Malformed c) ≡ false) → ((l n : ℕ) (c : List ℕ) → test (LegFacility l n c) ≡ false) → test (request (7 ∷ body)) ≡ false
-  unfolding request
-  asks_for test f g = go (eqb (length body) 69) (in_range (LegFacility (leg_in body) (count_in body) (drop 5 body)))
-    where
-      go : (z w : Bool) → test (asked body z w) ≡ false
-      go false w = f refusal.WrongLength
-      go true false = f refusal.FieldOutOfRange
-      go true true = g (leg_in body) (count_in body) (drop 5 body)
-
-  pub moves_nobody : MovesNobody k (record { octets = 7 ∷ body; room = room })
-  unfolding book_step book_after entries_after candidate_moves opens ends transfer_of
-  moves_nobody = record {
-    book_stays = ap (λ (c : Option BoardChange). record { options = k.options; candidate = candidate_moves c k.candidate; entries = entries_after c k.entries }) changes_none;
-    opens_nobody = λ l. asks_for (opens_leg l) (λ c. refl) (λ m n c. refl);
-    ends_nobody = λ l. asks_for (ends_leg k.entries l) (λ c. refl) (λ m n c. refl);
-    joins_nobody = λ l. ap (joined_by l) changes_none;
-  }
+pub moves_nobody : (k : Book) (body : List ℕ) (room : ℕ) → MovesNobody k (record { octets = 7 ∷ body; room = room })
+unfolding request
+moves_nobody k body room =
+    still_moves_nobody k (7 ∷ body) room
+    (either_still (eqb (length body) 69)
+    (either_still (in_range (LegFacility (leg_in body) (count_in body) (drop 5 body))) (leg_facility_still (leg_in body) (count_in body) (drop 5 body)) (malformed_still refusal.FieldOutOfRange))
+    (malformed_still refusal.WrongLength))

@@ -1,11 +1,12 @@
 -- What is decided of a request: refused, or what is to be done (document 01, "Event records", checks 6 to 11;
--- document 02, slip 5, check 12). The entries are the board's rows taken, or the book's entries.
+-- document 02, slips 5 and 6, check 12). The entries are the board's rows taken, or the book's entries.
 use Rattle.std.specs.Prelude.{ℕ, Bool, true, false, ◌&&◌, cond, List, ℤ, take, None, Option, Some}
 use Rattle.octets.specs.declared.LinkId.{LinkId}
 use Rattle.octets.specs.Lists.{any, find}
 use Rattle.component.specs.declared.Answer.TheVariants as answer
 use Rattle.component.specs.Reading.{reading}
 use Rattle.subaddresses.specs.SubaddressTransfer.{is_subaddress_transfer}
+use Rattle.private_transfers.specs.EctInform.{EctInform, inform_in}
 use Rattle.board.specs.declared.Direction.{Direction}
 use Rattle.board.specs.declared.Direction.TheVariants.{Outgoing, Incoming}
 use Rattle.board.specs.declared.CallState.{CallState}
@@ -17,7 +18,7 @@ use Rattle.board.specs.declared.PartyNumber.{PartyNumber}
 use Rattle.board.specs.declared.Options.{Options}
 use Rattle.board.specs.declared.Change.{Change}
 use Rattle.board.specs.declared.Change.TheVariants as change
-use Rattle.board.specs.States.{holdable}
+use Rattle.board.specs.States.{active, holdable}
 use Rattle.board.specs.declared.Connection.{Connection}
 use Rattle.board.specs.declared.Connection.TheVariants.{WithUser, WithPartner}
 use Rattle.board.specs.declared.Entry.{Entry}
@@ -27,8 +28,10 @@ use Rattle.events.specs.declared.Refusal.{Refusal}
 use Rattle.events.specs.declared.Refusal.TheVariants as refusal
 use Rattle.events.specs.Refusals.{refusal_number}
 use Rattle.events.specs.EventRecords.{Request, Malformed, Open, Progress, Hold, Release, Facility, Answer, LegFacility}
+use Rattle.events.specs.EventRecords.{Inform}
 use Rattle.rules.specs.Serving.{Service, Silent, Respond, AssignLinkId, Transfer, serve}
 use Rattle.rules.specs.Replies.{Written, nothing, replied, transfer_replies, release_replies, answer_told, passed_on_record}
+use Rattle.rules.specs.Replies.{inform_told}
 
 -- what an event changes, on the board and in the book: a far party is entered, with its number,
 -- or parties that are there change
@@ -187,6 +190,16 @@ abbrev pub decide_leg_facility : ℕ → List ℕ → Option Entry → Decision
 decide_leg_facility n c None = Refuse refusal.NoSuchLeg
 decide_leg_facility n c (Some e) = decide_passing n c e.connection
 
+-- "12 for a component that isn't such an invoke"; "No row changes." (document 02, slip 6)
+abbrev pub decide_informing : ℕ → Option EctInform → Decision
+decide_informing l None = Refuse refusal.NoSuchInvoke
+decide_informing l (Some i) = Accept None (inform_told l i)
+
+-- "Checks: 9 for no such call, then 11 if the call isn't Active, then 12 .."
+abbrev pub decide_inform : List ℕ → Option Party → Decision
+decide_inform c None = Refuse refusal.NoSuchCall
+decide_inform c (Some p) = cond (active p.call) (decide_informing p.leg (inform_in c)) (Refuse refusal.NotPermitted)
+
 -- "6: Open: leg on the board"; "7: Open: reference in use"; "8: Open: no empty row"
 abbrev pub decide_open : Bool → Bool → Bool → Decision → Decision
 decide_open leg_there reference_there full d =
@@ -206,3 +219,4 @@ decide o z full es (Release l) = decide_release (entry_at l es)
 decide o z full es (Facility r c) = decide_facility o z es c (named r es)
 decide o z full es (Answer l) = decide_answer o l (entry_at l es)
 decide o z full es (LegFacility l n c) = decide_leg_facility n c (entry_at l es)
+decide o z full es (Inform r c) = decide_inform c (named r es)

@@ -1,5 +1,6 @@
 -- Two lists of events computed to their ends, beside the whole-history theorem: a transfer while the second party alerts;
--- the same, then its answer, then a release. And, beside `passed_on`, the subaddress that this party sends.
+-- the same, then its answer, then a release. Beside `passed_on`, the subaddress that this party sends, and, beside
+-- `informed`, what a private exchange says of a call.
 use Rattle.std.specs.Prelude.{ℕ, ◌-◌, ◌≡◌, true, false, List, [], ◌∷◌, ◌++◌, map, length, replicate}
 use Rattle.octets.specs.Lists.{any}
 use Rattle.board.specs.declared.Connection.TheVariants.{WithPartner}
@@ -75,3 +76,37 @@ pub record PassingExamples : Type 0 where
       ≡ entry 1 (WithPartner 2 false) ∷ entry 2 (WithPartner 1 true) ∷ []
   -- before the transfer the leg is with the served user
   pub not_passed_on : returns (fresh 1 1).board (event (open_record 1) ∷ leg_facility 1 subaddress_transfer ∷ []) ≡ 0 ∷ 11 ∷ []
+
+-- an EctInform invoke with this indication and the digits 21
+abbrev pub ect_inform : ℕ → List ℕ
+ect_inform i =
+    0xA1 ∷ 0x16 ∷ 0x02 ∷ 0x01 ∷ 0x05 ∷ 0x06 ∷ 0x06 ∷ 0x04 ∷ 0x00 ∷ 0x82 ∷ 0x71 ∷ 0x01 ∷ 0x05
+    ∷ 0x30 ∷ 0x09 ∷ 0x0A ∷ 0x01 ∷ i ∷ 0xA0 ∷ 0x04 ∷ 0x80 ∷ 0x02 ∷ 0x32 ∷ 0x31 ∷ []
+
+abbrev pub inform : ℕ → List ℕ → Event
+inform r c = event (8 ∷ 0 ∷ r ∷ counted c)
+
+-- a call that is Active, reference 3 and leg 7, whose party is restricted and has the digits 99; and one that is not
+abbrev pub restricted_list : List Event
+restricted_list =
+    map event
+    ((1 ∷ 0 ∷ 3 ∷ 0 ∷ 0 ∷ 0 ∷ 7 ∷ 0 ∷ 1 ∷ 2 ∷ 0x39 ∷ 0x39 ∷ replicate 13 0) ∷ progress_record 3 10 ∷ open_record 1 ∷ [])
+
+pub record InformingExamples : Type 0 where
+  -- active, alerting; no such call, a call that is not Active, a component that is no such invoke
+  pub informed_numbers :
+      returns (board_at (fresh 0 0).board restricted_list)
+      (inform 3 (ect_inform 1) ∷ inform 3 (ect_inform 0) ∷ inform 2 (ect_inform 1) ∷ inform 1 (ect_inform 1)
+      ∷ inform 3 (ect_inform 2) ∷ [])
+      ≡ 0 ∷ 0 ∷ 9 ∷ 11 ∷ 12 ∷ []
+  -- the number received is told, not the row's own, and it is given although the row is restricted
+  pub active_octets :
+      octets (stepped (board_at (fresh 0 0).board restricted_list) (inform 3 (ect_inform 1))).replies
+      ≡ 0x82 ∷ 0 ∷ 0 ∷ 0 ∷ 7 ∷ 0 ∷ 0xEA ∷ 1 ∷ 1 ∷ 2 ∷ 0x32 ∷ 0x31 ∷ replicate 13 0
+  -- for alerting it is ignored
+  pub alerting_octets :
+      octets (stepped (board_at (fresh 0 0).board restricted_list) (inform 3 (ect_inform 0))).replies
+      ≡ 0x82 ∷ 0 ∷ 0 ∷ 0 ∷ 7 ∷ 1 ∷ 0xE9 ∷ 0 ∷ 0 ∷ 0 ∷ replicate 15 0
+  pub informed_board :
+      taken (board_at (fresh 0 0).board (restricted_list ++ (inform 3 (ect_inform 1) ∷ []))).rows
+      ≡ taken (board_at (fresh 0 0).board restricted_list).rows

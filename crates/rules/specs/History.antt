@@ -14,7 +14,7 @@ use Rattle.board.specs.Entries.{taken, has_leg, is_partner}
 use Rattle.board.specs.Soundness.{sound, same_link_ids, valid_options}
 use Rattle.board.specs.Making.{empty_board, fresh}
 use Rattle.events.specs.EventRecords.{request, Request, Malformed, Open, Progress, Hold, Release, Facility, Answer}
-use Rattle.events.specs.EventRecords.{LegFacility}
+use Rattle.events.specs.EventRecords.{LegFacility, Inform}
 use Rattle.rules.specs.Checks.{BoardChange, Enter, Apply, returned_by, change_of}
 use Rattle.rules.specs.Replies.{error_record, error_octets, octets}
 use Rattle.rules.specs.Step.{step, Outcome, refused}
@@ -74,7 +74,7 @@ accepted (n ∷ ns) (e ∷ es) = cond (eqb n 0) (e ∷ accepted ns es) (accepted
 -- ---- what an event of the history, and the book as that event finds it, say of a leg
 
 -- "An accepted Open opens its leg"; "history reads such an event as neither opening nor ending anyone" (document 02,
--- slip 5, of a Leg facility)
+-- slip 5, of a Leg facility), nor does an Inform, by which "No row changes" (slip 6)
 abbrev pub opens_leg : ℕ → Request → Bool
 opens_leg l (Malformed c) = false
 opens_leg l (Open r m d n) = eqb l m
@@ -84,6 +84,7 @@ opens_leg l (Release m) = false
 opens_leg l (Facility r c) = false
 opens_leg l (Answer m) = false
 opens_leg l (LegFacility m n c) = false
+opens_leg l (Inform r c) = false
 
 unfoldable pub opens : Event → ℕ → Bool
 opens e l = opens_leg l (request e.octets)
@@ -102,6 +103,7 @@ ends_leg es l (Release m) = eqb l m || any (joined_with l m) es
 ends_leg es l (Facility r c) = false
 ends_leg es l (Answer m) = false
 ends_leg es l (LegFacility m n c) = false
+ends_leg es l (Inform r c) = false
 
 unfoldable pub ends : Book → Event → ℕ → Bool
 ends k e l = ends_leg k.entries l (request e.octets)

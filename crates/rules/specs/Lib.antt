@@ -8,4 +8,6 @@ pub mod Book
 pub mod History
 pub mod Situations
 pub mod Examples
+pub mod SingleEvents
 pub mod PassedOn
+pub mod Informed

@@ -1,14 +1,13 @@
 -- What is claimed of a Leg facility, whatever the octets of its body (document 02, slip 5).
-use Rattle.std.specs.Prelude.{ℕ, ◌≤◌, ◌≡◌, ◌↔◌, Bool, false, not, List, [], ◌∷◌, ◌++◌, T, length, take, drop, get_or, None}
+use Rattle.std.specs.Prelude.{ℕ, ◌≡◌, ◌↔◌, Bool, not, List, [], ◌∷◌, ◌++◌, T, take, drop, get_or}
 use Rattle.octets.specs.Numbers.{four}
 use Rattle.subaddresses.specs.SubaddressTransfer.{is_subaddress_transfer}
 use Rattle.board.specs.declared.Board.{Board}
 use Rattle.board.specs.declared.Call.{Call}
 use Rattle.board.specs.declared.Connection.TheVariants.{WithUser, WithPartner}
-use Rattle.board.specs.Soundness.{sound}
 use Rattle.events.specs.EventRecords.{field, valid_component}
-use Rattle.rules.specs.Book.{Book}
-use Rattle.rules.specs.History.{Event, booked, opens, ends, transfer_of, on_board, HasRow}
+use Rattle.rules.specs.History.{on_board, HasRow}
+use Rattle.rules.specs.SingleEvents.{Checked}
 
 -- "leg 4, count 1 of 1 to 64, component, zeros"
 abbrev pub leg_in : List ℕ → ℕ
@@ -21,11 +20,8 @@ abbrev pub component_in : List ℕ → List ℕ
 component_in body = take (count_in body) (drop 5 body)
 
 -- checks 1 to 5 are passed; the kind is listed
-pub record Judged (b : Board) (body : List ℕ) (room : ℕ) : Type 0 where
-  pub enough : 128 ≤ room
-  pub sound_board : T (sound b)
-  pub long : length body ≡ 69
-  pub is_in_range : T (valid_component 64 (count_in body) (drop 5 body))
+abbrev pub Judged : Board → List ℕ → ℕ → Type 0
+Judged b body room = Checked b room body 69 (valid_component 64 (count_in body) (drop 5 body))
 
 -- "A SubaddressTransfer invoke .. on a joined leg", by its partner, "alerting or not"
 pub record Passable (b : Board) (body : List ℕ) (partner : ℕ) : Type 0 where
@@ -49,10 +45,3 @@ pub record PassedOn (b : Board) (body : List ℕ) (room returned : ℕ) (after :
   pub refused : (returned ≡ 0 → ⊥) → octets ≡ []
   -- "The board doesn't change", accepted or refused
   pub board_stays : after ≡ b
-
--- "history reads such an event as neither opening nor ending anyone", and it joins nobody
-pub record MovesNobody (k : Book) (e : Event) : Type 0 where
-  pub book_stays : booked k e ≡ k
-  pub opens_nobody : (l : ℕ) → opens e l ≡ false
-  pub ends_nobody : (l : ℕ) → ends k e l ≡ false
-  pub joins_nobody : (l : ℕ) → transfer_of k e l ≡ None

@@ -1,6 +1,7 @@
 -- Reply records: as data, and as octets (document 01, "Reply records", and what "Serving it" tells the far parties).
 use Rattle.std.specs.Prelude.{ℕ, Bool, true, false, ◌&&◌, ◌||◌, cond, List, [], ◌∷◌, ◌++◌, eqb, length, replicate}
 use Rattle.std.specs.Prelude.{get_or, None, Option, Some}
+use Rattle.digits.specs.Digits.{in_fifteen}
 use Rattle.octets.specs.declared.IntegerOctets.{IntegerOctets}
 use Rattle.octets.specs.Lists.{find}
 use Rattle.octets.specs.Numbers.{two, four}
@@ -15,6 +16,9 @@ use Rattle.board.specs.declared.Connection.{Connection}
 use Rattle.board.specs.declared.Connection.TheVariants.{WithUser, WithPartner}
 use Rattle.board.specs.declared.Party.{Party}
 use Rattle.board.specs.Entries.{occupied}
+use Rattle.private_transfers.specs.declared.Indication.{Indication}
+use Rattle.private_transfers.specs.declared.Indication.TheVariants.{Alerting, Active}
+use Rattle.private_transfers.specs.EctInform.{Number, NotSent, Restricted, Given, EctInform}
 -- a number as it is told
 pub use Rattle.rules.specs.declared.TellNumber.{TellNumber}
 
@@ -49,11 +53,13 @@ octets (r ∷ rs) = record_octets r ++ octets rs
 abbrev pub mark_only : ℕ → TellNumber
 mark_only m = record { mark = m; count = 0; digits = replicate 15 0 }
 
+abbrev pub given : ℕ → List ℕ → TellNumber
+given n ds = record { mark = 1; count = n; digits = ds }
+
 abbrev pub number_as_told : PartyNumber → TellNumber
 number_as_told n =
     cond (eqb n.count 0) (mark_only 0)
-    (cond (eqb n.presentation 1) (mark_only 2)
-    (record { mark = 1; count = n.count; digits = n.digits }))
+    (cond (eqb n.presentation 1) (mark_only 2) (given n.count n.digits))
 
 abbrev pub number_of_row : Option Row → TellNumber
 number_of_row None = mark_only 0
@@ -62,6 +68,12 @@ number_of_row (Some r) = number_as_told r.number
 -- the number of the party at a leg
 abbrev pub number_at : List Row → ℕ → TellNumber
 number_at rows l = number_of_row (find (λ (r : Row). eqb l r.leg && occupied r.standing) rows)
+
+-- "given, withheld for 81 00, else mark 0" (document 02, slip 6)
+abbrev pub number_as_received : Number → TellNumber
+number_as_received NotSent = mark_only 0
+number_as_received Restricted = mark_only 2
+number_as_received (Given ds) = given (length ds) (in_fifteen ds)
 
 -- ---- what the far parties are told
 
@@ -98,6 +110,12 @@ tells o numbers p q =
 abbrev pub drops : ℕ → ℕ → List ReplyRecord
 drops named other = Drop named ∷ Drop other ∷ []
 
+-- "NOTIFY, E9, request 0 for alerting; FACILITY, EA, request 1 for active"; "for alerting that element, in either form,
+-- is ignored and the mark is 0" (document 02, slip 6)
+abbrev pub inform_record : ℕ → Indication → TellNumber → ReplyRecord
+inform_record l Alerting n = Tell l notify transferred_alerting (mark_only 0) 0
+inform_record l Active n = Tell l facility transferred_active n 1
+
 -- ---- what an event writes
 
 -- its records, by the number of the party at each leg, which the rows have
@@ -129,6 +147,11 @@ answer_told o l partner numbers = Tell partner facility transferred_active (numb
 -- "passed on unchanged to the partner .. as reply record 0x85 with .. the partner's leg" (document 02, slip 5)
 abbrev pub passed_on_record : ℕ → ℕ → List ℕ → Written
 passed_on_record partner n c numbers = PassOn partner n c ∷ []
+
+-- "The far party of that call gets one Tell .. The number is as received, whether or not the row's own party is
+-- restricted" (document 02, slip 6): the numbers that the rows have are not looked at
+abbrev pub inform_told : ℕ → EctInform → Written
+inform_told l i numbers = inform_record l i.indication (number_as_received i.number) ∷ []
 
 -- ---- "An error answer is a Reply whose component begins A3 or A4."
 

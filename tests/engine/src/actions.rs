@@ -2,6 +2,7 @@
 
 use crate::board::{Aux, CallState, LinkId, Reference, INCOMING, OUTGOING};
 use crate::component::Operation;
+use crate::informs::inform;
 use crate::legs::leg_facility;
 use crate::odd;
 use crate::records;
@@ -9,13 +10,13 @@ use crate::script::Script;
 
 /// How often each step is taken, as weights.
 pub struct Style {
-    pub weights: [u32; 14],
+    pub weights: [u32; 15],
     pub opens_first: usize,
     pub length: (usize, usize),
 }
 
 /// The steps, in the order of the weights.
-const STEPS: [fn(&mut Script); 14] = [
+const STEPS: [fn(&mut Script); 15] = [
     open,
     progress,
     hold,
@@ -30,6 +31,7 @@ const STEPS: [fn(&mut Script); 14] = [
     stray,
     clutter,
     leg_facility,
+    inform,
 ];
 
 pub fn step(script: &mut Script, style: &Style) {
@@ -125,7 +127,7 @@ pub fn pair(script: &mut Script) {
 }
 
 /// A new call brought to Delivered or Active.
-fn fresh_call(script: &mut Script, alerts: bool) -> Reference {
+pub fn fresh_call(script: &mut Script, alerts: bool) -> Reference {
     let direction = if alerts || script.rng.percent(50) { OUTGOING } else { INCOMING };
     let reference = script.open(direction);
     if script.call(reference).is_none() && script.rng.percent(90) {
@@ -191,9 +193,7 @@ fn bad_facility(script: &mut Script, reference: Reference) -> Vec<u8> {
 
 /// Events that name what is not there, or is there already, or is not permitted now.
 fn stray(script: &mut Script) {
-    let gone = script.old_references.last().copied();
-    let gone = gone.map(|_| script.old_references[script.rng.below(script.old_references.len())]);
-    let absent = gone.filter(|_| script.rng.percent(50)).unwrap_or_else(|| script.fresh_reference());
+    let absent = script.absent_reference();
     let record = match script.rng.below(9) {
         0 | 1 => taken_open(script),
         2 => records::progress(absent, script.rng.pick(&[4, 10])),

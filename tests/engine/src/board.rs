@@ -99,6 +99,14 @@ pub struct Number(pub [u8; 16]);
 impl Number {
     pub const NONE: Number = Number([0; 16]);
 
+    /// At most fifteen digits, their count in front and zeros behind.
+    pub fn of(digits: &[u8]) -> Number {
+        let mut octets = [0; 16];
+        octets[0] = digits.len() as u8;
+        octets[1..=digits.len()].copy_from_slice(digits);
+        Number(octets)
+    }
+
     pub fn count(&self) -> u8 {
         self.0[0]
     }

@@ -7,6 +7,7 @@ pub const OBJECT: [u8; 5] = [0x04, 0x00, 0x82, 0x71, 0x01];
 pub const EXPLICIT: u8 = 0x01;
 pub const SUBADDRESS: u8 = 0x03;
 pub const LINK_REQUEST: u8 = 0x04;
+pub const ECT_INFORM: u8 = 0x05;
 pub const MAX_DEPTH: u8 = 4;
 
 const NULL: &[u8] = &[0x05, 0x00];

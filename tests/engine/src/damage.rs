@@ -1,6 +1,6 @@
 //! Damage to whole logs.
 
-use crate::event::LEG_FACILITY;
+use crate::carrier::Carrier;
 use crate::rng::Rng;
 
 /// Damages a log in one way; `starts` says where its records begin.
@@ -12,7 +12,7 @@ pub fn damage(rng: &mut Rng, log: &mut Vec<u8>, starts: &[usize]) {
         3 => shift(rng, log),
         4 => listed_kind(rng, log, starts),
         5 => bad_options(rng, log),
-        6 => end_at_leg_facility(rng, log, starts),
+        6 => end_at_carrier(rng, log, starts),
         _ => noise(rng, log),
     }
 }
@@ -31,17 +31,22 @@ fn cut_tail(rng: &mut Rng, log: &mut Vec<u8>, starts: &[usize]) {
     log.truncate(length);
 }
 
-/// Ends the log at a Leg facility: after its kind, one octet short of its end, or one beyond it.
-fn end_at_leg_facility(rng: &mut Rng, log: &mut Vec<u8>, starts: &[usize]) {
-    let legs: Vec<usize> = starts.iter().copied().filter(|&start| log[start] == LEG_FACILITY).collect();
-    if legs.is_empty() {
+/// Ends the log at a Leg facility or an Inform: after its kind, one octet short of its end, or
+/// one beyond it.
+fn end_at_carrier(rng: &mut Rng, log: &mut Vec<u8>, starts: &[usize]) {
+    let carrier = |start: usize| Some((start, Carrier::of(log[start])?.length()));
+    let carriers: Vec<(usize, usize)> = starts.iter().filter_map(|&start| carrier(start)).collect();
+    if carriers.is_empty() {
         return cut_tail(rng, log, starts);
     }
-    let length = rng.pick(&[1, 69, 69, 71, 71]);
-    log.truncate(rng.pick(&legs) + length.min(70));
-    if length == 71 {
-        let kind = rng.below(8) as u8;
-        log.push(kind);
+    let (start, length) = rng.pick(&carriers);
+    match rng.below(5) {
+        0 => log.truncate(start + 1),
+        1 | 2 => log.truncate(start + length - 1),
+        _ => {
+            log.truncate(start + length);
+            log.push(rng.below(9) as u8);
+        }
     }
 }
 
@@ -58,7 +63,7 @@ fn wrong_kind(rng: &mut Rng, log: &mut Vec<u8>, starts: &[usize]) {
 /// Another listed kind: from there on the records are read at the wrong places.
 fn listed_kind(rng: &mut Rng, log: &mut [u8], starts: &[usize]) {
     if !starts.is_empty() {
-        log[rng.pick(starts)] = rng.within(1, 7) as u8;
+        log[rng.pick(starts)] = rng.within(1, 8) as u8;
     }
 }
 
@@ -85,7 +90,7 @@ fn bad_options(rng: &mut Rng, log: &mut Vec<u8>) {
 fn noise(rng: &mut Rng, log: &mut Vec<u8>) {
     log.truncate(2);
     for _ in 0..rng.within(1, 200) {
-        let octet = if rng.percent(50) { rng.below(8) as u8 } else { rng.octet() };
+        let octet = if rng.percent(50) { rng.below(9) as u8 } else { rng.octet() };
         log.push(octet);
     }
 }

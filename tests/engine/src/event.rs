@@ -1,11 +1,11 @@
 //! Event records and what each of them does.
 
 use crate::board::{Aux, Board, Call, CallState, Number, Reference, Row, Standing, INCOMING};
+use crate::carried::{inform, pass_on};
 use crate::index::Index;
 use crate::lookup::{Lookup, Walk};
-use crate::reply::{Message, Replies, ACTIVE, BUFFER};
+use crate::reply::{Message, Replies, Told, ACTIVE, BUFFER};
 use crate::serve::serve;
-use crate::subaddress::is_transfer;
 
 pub const OPEN: u8 = 1;
 pub const PROGRESS: u8 = 2;
@@ -14,6 +14,7 @@ pub const RELEASE: u8 = 4;
 pub const FACILITY: u8 = 5;
 pub const ANSWER: u8 = 6;
 pub const LEG_FACILITY: u8 = 7;
+pub const INFORM: u8 = 8;
 
 /// What an event returns: 0 and the octets written, or a refusal and 0.
 #[derive(Clone, Copy, PartialEq, Eq, Debug)]
@@ -31,6 +32,7 @@ pub enum Event<'a> {
     Facility { reference: Reference, component: &'a [u8] },
     Answer { leg: u32 },
     LegFacility { leg: u32, component: &'a [u8] },
+    Inform { reference: Reference, component: &'a [u8] },
 }
 
 /// The octets that follow a listed kind.
@@ -41,6 +43,7 @@ pub fn body_length(kind: u8) -> Option<usize> {
         RELEASE | ANSWER => Some(4),
         FACILITY => Some(35),
         LEG_FACILITY => Some(69),
+        INFORM => Some(67),
         _ => None,
     }
 }
@@ -57,12 +60,17 @@ impl Event<'_> {
             (OPEN, body) => read_open(body),
             (PROGRESS, &[high, low, state]) => read_progress(high, low, state),
             (HOLD, &[high, low, aux]) => read_hold(high, low, aux),
-            (FACILITY, &[high, low, count, ref octets @ ..]) => read_facility(high, low, count, octets),
+            (FACILITY, body) => {
+                on_a_call(body).map(|(reference, component)| Event::Facility { reference, component })
+            }
             (RELEASE, &[a, b, c, d]) => Some(Event::Release { leg: u32::from_be_bytes([a, b, c, d]) }),
             (ANSWER, &[a, b, c, d]) => Some(Event::Answer { leg: u32::from_be_bytes([a, b, c, d]) }),
             (LEG_FACILITY, &[a, b, c, d, count, ref octets @ ..]) => {
                 let leg = u32::from_be_bytes([a, b, c, d]);
                 component(count, octets).map(|component| Event::LegFacility { leg, component })
+            }
+            (INFORM, body) => {
+                on_a_call(body).map(|(reference, component)| Event::Inform { reference, component })
             }
             _ => None,
         };
@@ -97,8 +105,10 @@ fn read_hold<'a>(high: u8, low: u8, aux: u8) -> Option<Event<'a>> {
     Some(Event::Hold { reference: reference(high, low)?, aux: Aux::from_octet(aux)? })
 }
 
-fn read_facility(high: u8, low: u8, count: u8, octets: &[u8]) -> Option<Event<'_>> {
-    Some(Event::Facility { reference: reference(high, low)?, component: component(count, octets)? })
+/// The reference and the component of a record that has both.
+fn on_a_call(body: &[u8]) -> Option<(Reference, &[u8])> {
+    let &[high, low, count, ref octets @ ..] = body else { return None };
+    Some((reference(high, low)?, component(count, octets)?))
 }
 
 /// The octets that are counted, at least one; those behind them are zeros.
@@ -163,6 +173,7 @@ fn sound_event(
         }
         Event::Answer { leg } => answer(board, index, leg, &mut replies)?,
         Event::LegFacility { leg, component } => pass_on(board, index, leg, component, &mut replies)?,
+        Event::Inform { reference, component } => inform(board, index, reference, component, &mut replies)?,
     }
     Ok(replies.written())
 }
@@ -186,7 +197,7 @@ fn open(board: &mut Board, index: &impl Lookup, reference: Reference, row: Row) 
 }
 
 /// The call that an event names, with its place.
-fn named(board: &Board, index: &impl Lookup, reference: Reference) -> Result<(usize, Call), u8> {
+pub fn named(board: &Board, index: &impl Lookup, reference: Reference) -> Result<(usize, Call), u8> {
     let place = index.reference(&board.rows, reference).ok_or(9)?;
     let call = board.rows[place].call().ok_or(9)?;
     Ok((place, *call))
@@ -247,23 +258,6 @@ fn answer(board: &mut Board, index: &impl Lookup, leg: u32, replies: &mut Replie
     let row = &mut board.rows[place];
     let Standing::Joined { partner, alerts: true } = row.standing else { return Err(11) };
     row.standing = Standing::Joined { partner, alerts: false };
-    replies.tell(partner, Message::Facility, ACTIVE, 0, Some(row));
-    Ok(())
-}
-
-/// The partner gets the component as it is; the board is only looked at.
-fn pass_on(
-    board: &Board,
-    index: &impl Lookup,
-    leg: u32,
-    component: &[u8],
-    replies: &mut Replies,
-) -> Result<(), u8> {
-    let place = index.leg(&board.rows, leg).ok_or(10)?;
-    let Standing::Joined { partner, .. } = board.rows[place].standing else { return Err(11) };
-    if !is_transfer(component) {
-        return Err(12);
-    }
-    replies.pass_on(partner, component);
+    replies.tell(partner, Message::Facility, ACTIVE, 0, Told::of(row));
     Ok(())
 }

@@ -2,9 +2,8 @@
 
 use crate::actions::pair;
 use crate::board::Standing;
-use crate::component::Operation;
+use crate::carrier::Carrier;
 use crate::near;
-use crate::odd;
 use crate::records;
 use crate::script::Script;
 
@@ -18,7 +17,7 @@ pub fn leg_facility(script: &mut Script) {
         1 => missed(script),
         2 => bad_record(script),
         3 => anything(script),
-        _ => on_a_call(script),
+        _ => near::on_a_call(script, Carrier::LegFacility),
     }
 }
 
@@ -32,61 +31,28 @@ fn subaddress(script: &mut Script) {
 }
 
 fn send(script: &mut Script, leg: u32) {
-    let component = near::right(script);
+    let component = near::right(script, Carrier::LegFacility);
     script.put(&records::leg_facility(leg, &component));
 }
 
 fn missed(script: &mut Script) {
     let leg = leg(script, [92, 4, 4]);
-    let component = near::miss(script);
+    let component = near::miss(script, Carrier::LegFacility);
     script.put(&records::leg_facility(leg, &component));
 }
 
-/// A count or a fill octet that is wrong, or a count that cuts the component or says too much.
 fn bad_record(script: &mut Script) {
     let leg = leg(script, [70, 15, 15]);
-    let component = if script.rng.percent(75) { near::right(script) } else { near::miss(script) };
+    let component = near::mostly_right(script, Carrier::LegFacility);
     let mut record = records::leg_facility(leg, &component);
-    let rng = &mut *script.rng;
-    let behind = (6 + component.len()).min(69);
-    match rng.below(10) {
-        0 => record[5] = 0,
-        1 => record[5] = 65,
-        2 => record[5] = 255,
-        3 => record[5] = rng.within(66, 254) as u8,
-        4 => record[behind] = rng.within(1, 255) as u8,
-        5 => record[69] = rng.within(1, 255) as u8,
-        6 => record[rng.within(behind, 69)] = rng.within(1, 255) as u8,
-        7 => record[5] -= 1,
-        8 => {
-            record[behind - 1] = 0;
-            record[5] -= 1;
-        }
-        _ => record[5] += 1,
-    }
+    near::spoil(script.rng, Carrier::LegFacility, &mut record);
     script.put(&record);
 }
 
-/// An invoke that is served on a call, an odd component, or up to 64 octets of any value.
 fn anything(script: &mut Script) {
     let leg = leg(script, [70, 15, 15]);
-    let link = script.board.candidate;
-    let component = match script.rng.below(7) {
-        0 => script.invoke(Operation::Execute),
-        1 => script.invoke(Operation::Explicit(link)),
-        2 => script.invoke(Operation::LinkRequest),
-        3 => odd::noise(script.rng, 64),
-        4 => odd::noise(script.rng, 1),
-        _ => odd::component(script),
-    };
+    let component = near::anything(script, Carrier::LegFacility);
     script.put(&records::leg_facility(leg, &component));
-}
-
-/// The served user's terminal sends it: that is a Facility, and it is not served.
-fn on_a_call(script: &mut Script) {
-    let Some(call) = script.pick_call() else { return subaddress(script) };
-    let component = near::right_for_a_call(script);
-    script.facility(call.reference, &component);
 }
 
 /// A leg that is joined, has a call with the served user, or is not on the board; by weight.

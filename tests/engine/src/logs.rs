@@ -13,24 +13,26 @@ pub const LEAST_EVENTS: u64 = 1_000_000;
 pub const DEFAULT_SEED: u64 = 0x0369_0001;
 
 /// Weights: open, progress, hold, release, answer, link, execute, explicit, pair,
-/// odd component, bad field, stray, clutter, Leg facility.
-const STYLES: [Style; 8] = [
+/// odd component, bad field, stray, clutter, Leg facility, Inform.
+const STYLES: [Style; 9] = [
     // An attendant's day.
-    Style { weights: [8, 14, 16, 9, 7, 6, 7, 6, 9, 3, 3, 5, 3, 5], opens_first: 2, length: (25, 75) },
+    Style { weights: [8, 14, 16, 9, 7, 6, 7, 6, 9, 3, 3, 5, 3, 5, 5], opens_first: 2, length: (25, 75) },
     // Mostly transfers.
-    Style { weights: [2, 4, 4, 10, 10, 2, 3, 3, 30, 1, 1, 2, 8, 12], opens_first: 0, length: (30, 90) },
+    Style { weights: [2, 4, 4, 10, 10, 2, 3, 3, 30, 1, 1, 2, 8, 12, 4], opens_first: 0, length: (30, 90) },
     // A full board.
-    Style { weights: [20, 10, 10, 6, 4, 8, 5, 5, 6, 3, 3, 14, 2, 5], opens_first: 64, length: (90, 140) },
+    Style { weights: [20, 12, 10, 6, 4, 8, 5, 5, 6, 3, 3, 14, 2, 5, 12], opens_first: 64, length: (90, 140) },
     // LinkIds until none is left.
-    Style { weights: [10, 6, 8, 6, 2, 40, 3, 14, 4, 2, 1, 4, 2, 2], opens_first: 18, length: (50, 100) },
+    Style { weights: [10, 6, 8, 6, 2, 40, 3, 14, 4, 2, 1, 4, 2, 2, 3], opens_first: 18, length: (50, 100) },
     // Components of every sort.
-    Style { weights: [4, 6, 6, 2, 2, 8, 4, 4, 3, 60, 2, 2, 1, 6], opens_first: 3, length: (30, 60) },
+    Style { weights: [4, 6, 6, 2, 2, 8, 4, 4, 3, 60, 2, 2, 1, 6, 6], opens_first: 3, length: (30, 60) },
     // Fields out of range and events that come at the wrong time.
-    Style { weights: [6, 8, 8, 4, 6, 4, 4, 4, 6, 4, 30, 30, 2, 8], opens_first: 3, length: (30, 60) },
+    Style { weights: [6, 8, 8, 4, 6, 4, 4, 4, 6, 4, 30, 30, 2, 8, 8], opens_first: 3, length: (30, 60) },
     // Short ones.
-    Style { weights: [8, 10, 10, 5, 5, 6, 6, 6, 10, 6, 4, 6, 6, 8], opens_first: 0, length: (0, 20) },
+    Style { weights: [8, 10, 10, 5, 5, 6, 6, 6, 10, 6, 4, 6, 6, 8, 8], opens_first: 0, length: (0, 20) },
     // Subaddresses of joined parties.
-    Style { weights: [4, 4, 4, 5, 8, 2, 2, 2, 10, 1, 1, 2, 2, 60], opens_first: 1, length: (30, 80) },
+    Style { weights: [4, 4, 4, 5, 8, 2, 2, 2, 10, 1, 1, 2, 2, 60, 0], opens_first: 1, length: (30, 80) },
+    // Transfers inside private exchanges.
+    Style { weights: [6, 8, 12, 4, 2, 2, 2, 2, 4, 1, 1, 2, 1, 0, 70], opens_first: 3, length: (30, 80) },
 ];
 
 pub struct Logs {
@@ -59,7 +61,7 @@ impl Iterator for Logs {
 
 /// One log in one of the styles, damaged at times.
 pub fn steered(rng: &mut Rng) -> Vec<u8> {
-    let style = &STYLES[rng.weighted(&[30, 20, 10, 12, 12, 10, 8, 20])];
+    let style = &STYLES[rng.weighted(&[30, 20, 10, 12, 12, 10, 8, 20, 28])];
     let (subscribed, alerting) = rng.pick(&[(1, 1), (1, 1), (1, 1), (1, 1), (1, 0), (1, 0), (0, 0), (0, 1)]);
     let damaged = rng.percent(12);
     let length = rng.within(style.length.0, style.length.1);

@@ -3,23 +3,28 @@
 use std::collections::HashSet;
 
 use crate::board::{Aux, Board, Call, CallState, LinkId, Reference, Row, Standing, INCOMING};
-use crate::event::{event, Answer, Event, LEG_FACILITY, RELEASE};
+use crate::carrier::Carrier;
+use crate::event::{event, Answer, Event, RELEASE};
+use crate::notice_carrier;
 use crate::notice_component;
+use crate::notice_inform;
 use crate::notice_invoke::rewritten;
 use crate::notice_leg;
 use crate::notice_pair::looked_up;
 use crate::notice_refused::{bad_field, no_call, not_permitted, open_refused};
+use crate::places;
 use crate::play::{next_record, start};
-use crate::reply::{mark, BUFFER};
+use crate::reply::{Told, BUFFER};
 use crate::rows::board_sound;
-use crate::seen_leg::LegSeen;
+use crate::seen_carrier::CarrierSeen;
 use crate::tally::{Seen, Tally};
 
 /// What happened earlier in the log.
 #[derive(Default)]
 pub struct Past {
-    /// What went by transfer.
+    /// What went by transfer, and references whose call was released.
     pub references: HashSet<Reference>,
+    pub ended: HashSet<Reference>,
     pub links: HashSet<LinkId>,
     /// Legs that were released, and those that went with their partner.
     pub released: HashSet<u32>,
@@ -29,6 +34,9 @@ pub struct Past {
     /// Joined legs that a Leg facility was passed on from and to, and those of one refused with 12.
     pub passed: HashSet<(u32, u32)>,
     pub refused: HashSet<u32>,
+    /// Legs that an Inform was told to, and those of them that were told another number than their own.
+    pub informed: HashSet<u32>,
+    pub other_number: HashSet<u32>,
 }
 
 /// One event with the board before and after it.
@@ -38,6 +46,14 @@ pub struct Moment<'a> {
     pub record: &'a [u8],
     pub returned: u8,
     pub written: &'a [u8],
+}
+
+impl Moment<'_> {
+    /// The octet behind the component of a Leg facility or an Inform; none behind 64.
+    pub fn left_behind(&self, component: &[u8]) -> Option<u8> {
+        let place = Carrier::of(self.record[0])?.component_at() + component.len();
+        self.record.get(place).copied()
+    }
 }
 
 /// What the engine did that no engine may do, and at which event, counted from 1.
@@ -68,11 +84,13 @@ pub fn watch(log: &[u8], tally: &mut Tally) -> Result<(), Fault> {
         let moment = Moment { before: &before, after: &board, record, returned, written: &buffer[..written] };
         stands(&before, &board, answer, &buffer)
             .and_then(|()| invokes_stand(&moment, tally))
-            .and_then(|()| notice_leg::stands(&moment))
+            .and_then(|()| places::stands(&moment))
             .map_err(|what| Fault { event: number, what })?;
         notice(&moment, &mut past, tally);
         tally.add_if(returned == 4 && rest.len() == 1, Seen::UnknownKindLast);
-        tally.add_if(record[0] == LEG_FACILITY && after.len() == 1, LegSeen::OneBehind);
+        if let (Some(carrier), [_]) = (Carrier::of(record[0]), after) {
+            tally.add((carrier, CarrierSeen::OneBehind));
+        }
         rest = after;
     }
     tally.events += number as u64;
@@ -118,21 +136,23 @@ fn invokes_stand(moment: &Moment, tally: &mut Tally) -> Result<(), String> {
 }
 
 fn notice(moment: &Moment, past: &mut Past, tally: &mut Tally) {
-    match moment.returned {
-        0 => accepted(moment, past, tally),
-        3 => {
+    match (moment.returned, Carrier::of(moment.record[0])) {
+        (3, carrier) => {
             tally.add(Seen::CutRecord);
             tally.add_if(moment.record.len() == 1, Seen::CutAfterKind);
-            if moment.record[0] == LEG_FACILITY {
-                notice_leg::cut(moment.record, tally);
+            if let Some(carrier) = carrier {
+                notice_carrier::cut(moment.record, carrier, tally);
             }
         }
-        4 => tally.add(Seen::UnknownKind),
-        _ if moment.record[0] == LEG_FACILITY => notice_leg::judged(moment, past, tally),
-        5 => bad_field(moment, tally),
-        6..=8 => open_refused(moment, tally),
-        9 => no_call(moment, past, tally),
-        10 => tally.add(if moment.record[0] == RELEASE { Seen::NoLegRelease } else { Seen::NoLegAnswer }),
+        (_, Some(carrier)) => notice_carrier::judged(moment, carrier, past, tally),
+        (0, _) => accepted(moment, past, tally),
+        (4, _) => tally.add(Seen::UnknownKind),
+        (5, _) => bad_field(moment, tally),
+        (6..=8, _) => open_refused(moment, tally),
+        (9, _) => no_call(moment, past, tally),
+        (10, _) => {
+            tally.add(if moment.record[0] == RELEASE { Seen::NoLegRelease } else { Seen::NoLegAnswer })
+        }
         _ => not_permitted(moment, past, tally),
     }
 }
@@ -158,19 +178,18 @@ fn accepted(moment: &Moment, past: &mut Past, tally: &mut Tally) {
             });
             tally.add_if(call.aux != Aux::Idle, Seen::ProgressHeld);
         }
-        Ok(Event::Hold { reference, aux }) => held(moment, reference, aux, tally),
+        Ok(Event::Hold { reference, aux }) => held(moment, reference, aux, past, tally),
         Ok(Event::Release { leg }) => released(moment, leg, past, tally),
         Ok(Event::Answer { leg }) => {
             let Some(row) = row_of_leg(moment.before, leg) else { return };
             let marks = [Seen::AnswerUnknown, Seen::AnswerGiven, Seen::AnswerWithheld];
-            tally.add(marks[mark(row) as usize]);
+            tally.add(marks[Told::of(row).mark() as usize]);
             notice_leg::answered(row, past, tally);
         }
         Ok(Event::Facility { reference, component }) => {
             notice_component::served(moment, reference, component, past, tally);
         }
-        Ok(Event::LegFacility { .. }) => notice_leg::judged(moment, past, tally),
-        Err(_) => {}
+        Ok(Event::LegFacility { .. } | Event::Inform { .. }) | Err(_) => {}
     }
 }
 
@@ -197,8 +216,9 @@ fn opened(moment: &Moment, reference: Reference, leg: u32, tally: &mut Tally) {
     tally.add_if(place == 63, Seen::OpenLast);
 }
 
-fn held(moment: &Moment, reference: Reference, aux: Aux, tally: &mut Tally) {
+fn held(moment: &Moment, reference: Reference, aux: Aux, past: &Past, tally: &mut Tally) {
     let Some(call) = call_of(moment.before, reference) else { return };
+    notice_inform::held(moment.before, reference, past, tally);
     tally.add(match (call.aux, aux) {
         (Aux::Idle, _) => Seen::Hold0To1,
         (Aux::HoldRequest, Aux::Held) => Seen::Hold1To2,
@@ -214,6 +234,7 @@ fn held(moment: &Moment, reference: Reference, aux: Aux, tally: &mut Tally) {
 fn released(moment: &Moment, leg: u32, past: &mut Past, tally: &mut Tally) {
     let Some(row) = row_of_leg(moment.before, leg) else { return };
     notice_leg::released(row, past, tally);
+    notice_inform::released(row, past, tally);
     match row.standing {
         Standing::Served(call) => {
             tally.add(Seen::ReleaseServed);

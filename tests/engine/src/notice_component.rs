@@ -1,14 +1,17 @@
 //! What occurs where a component is read and served.
 
 use crate::board::{Aux, Board, Call, CallState, LinkId, Reference, Row, MAX_LIVE};
+use crate::carrier::Carrier;
 use crate::component::{read, take, Element, Operation, Reading, MAX_DEPTH};
+use crate::inform::{self, Indication};
 use crate::notice::{Moment, Past};
+use crate::notice_carrier;
 use crate::notice_integer::integers;
 use crate::notice_invoke::form;
 use crate::notice_transfer::{transferred, EXPLICIT, IMPLICIT};
+use crate::seen_inform::InformSeen;
 use crate::seen_leg::LegSeen;
 use crate::serve::{pairs, verdict};
-use crate::subaddress::is_transfer;
 use crate::tally::{Seen, Tally};
 
 pub fn served(moment: &Moment, reference: Reference, component: &[u8], past: &mut Past, tally: &mut Tally) {
@@ -23,9 +26,8 @@ pub fn served(moment: &Moment, reference: Reference, component: &[u8], past: &mu
             _ => Seen::IgnoredA4,
         }),
         Reading::Reject { identifier, sort, problem } => {
-            let unsubscribed = moment.before.subscribed == 0;
-            tally.add_if(unsubscribed, Seen::RejectUnsubscribed);
-            tally.add_if(unsubscribed && is_transfer(component), LegSeen::InFacilityUnsubscribed);
+            tally.add_if(moment.before.subscribed == 0, Seen::RejectUnsubscribed);
+            in_a_facility(moment, component, tally);
             rejected(component, identifier, sort, problem, tally);
         }
         Reading::Invoke { identifier, operation } => {
@@ -46,7 +48,6 @@ fn rejected(component: &[u8], identifier: &[u8], sort: u8, problem: u8, tally: &
         }
         (0x80, _) => tally.add(Seen::General1),
         (_, 1) => {
-            in_a_facility(component, tally);
             let local = component[2 + identifier.len()] == 2;
             tally.add(if local { Seen::Invoke1Local } else { Seen::Invoke1Object });
         }
@@ -57,11 +58,15 @@ fn rejected(component: &[u8], identifier: &[u8], sort: u8, problem: u8, tally: &
     }
 }
 
-/// What is passed on between joined parties is not served on a call.
-fn in_a_facility(component: &[u8], tally: &mut Tally) {
-    if is_transfer(component) {
+/// What a Leg facility or an Inform hands over is not served on a call.
+fn in_a_facility(moment: &Moment, component: &[u8], tally: &mut Tally) {
+    if notice_carrier::in_a_facility(moment, Carrier::LegFacility, component, tally) {
         let plain = elements(&component[2..])[2].tag == 0x04;
         tally.add(if plain { LegSeen::InFacilityPlain } else { LegSeen::InFacilitySequence });
+    }
+    if notice_carrier::in_a_facility(moment, Carrier::Inform, component, tally) {
+        let active = inform::read(component).map(|inform| inform.indication) == Some(Indication::Active);
+        tally.add(if active { InformSeen::InFacilityActive } else { InformSeen::InFacilityAlerting });
     }
 }
 

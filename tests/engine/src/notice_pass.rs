@@ -4,7 +4,6 @@ use crate::board::{Board, Row, Standing};
 use crate::component::take;
 use crate::notice::{row_of_leg, Past};
 use crate::notice_component::elements;
-use crate::notice_invoke::form;
 use crate::seen_leg::LegSeen;
 use crate::tally::Tally;
 
@@ -32,40 +31,20 @@ pub fn between(board: &Board, row: &Row, partner: u32, past: &Past, tally: &mut 
     tally.add(if lower { LegSeen::FromLowerRow } else { LegSeen::FromHigherRow });
     tally.add(if row.leg < partner { LegSeen::FromLowerLeg } else { LegSeen::FromHigherLeg });
     tally.add_if(row.leg == 0, LegSeen::FromLeg0);
-    tally.add_if(partner == 0, LegSeen::ToLeg0);
-    tally.add_if(partner == u32::MAX, LegSeen::ToHighestLeg);
     tally.add_if(board.rows.iter().filter(|row| joined(Some(row))).count() > 2, LegSeen::OtherPair);
     tally.add_if(past.passed.contains(&(partner, row.leg)), LegSeen::BothWays);
-    tally.add([LegSeen::AlertingOff, LegSeen::AlertingOn][board.alerting as usize]);
-}
-
-/// The forms in which a component that is passed on was written.
-pub fn forms(component: &[u8], tally: &mut Tally) {
-    let list = elements(&component[2..]);
-    let [identifier, _, argument] = list.as_slice() else { return };
-    subaddress_form(argument.whole, tally);
-    if let Some(value) = identifier.integer() {
-        let forms =
-            [LegSeen::IdPositiveOne, LegSeen::IdPositiveTwo, LegSeen::IdNegativeOne, LegSeen::IdNegativeTwo];
-        tally.add(forms[form(value)]);
-        tally.add_if(value == 128, LegSeen::Id0080);
-        tally.add_if(value == -129, LegSeen::IdFF7F);
-    }
-    tally.add_if(component.ends_with(&[0]), LegSeen::LastZero);
-    tally.add_if(component.len() == 16, LegSeen::Shortest);
-    tally.add_if(component.len() == 32, LegSeen::Octets32);
-    tally.add_if(component.len() == 33, LegSeen::Octets33);
-    tally.add_if(component.len() == 41, LegSeen::Longest);
 }
 
 /// The argument's form, with the number of octets of the subaddress.
-fn subaddress_form(argument: &[u8], tally: &mut Tally) {
+pub fn subaddress_form(component: &[u8], tally: &mut Tally) {
     use LegSeen::{Flagged1, Flagged19, Flagged2, Flagged20, FlaggedBetween};
     use LegSeen::{Inner1, Inner19, Inner2, Inner20, InnerBetween};
     use LegSeen::{Plain1, Plain19, Plain2, Plain20, PlainBetween};
-    let inner = if argument[0] == 0x30 { &argument[2..] } else { argument };
+    let list = elements(&component[2..]);
+    let Some(argument) = list.get(2) else { return };
+    let inner = if argument.tag == 0x30 { argument.contents } else { argument.whole };
     let Some((subaddress, flag)) = take(inner) else { return };
-    let forms = match (argument[0], flag) {
+    let forms = match (argument.tag, flag) {
         (0x04, _) => [Plain1, Plain2, PlainBetween, Plain19, Plain20],
         (_, []) => [Inner1, Inner2, InnerBetween, Inner19, Inner20],
         _ => [Flagged1, Flagged2, FlaggedBetween, Flagged19, Flagged20],

@@ -1,4 +1,4 @@
-//! What occurs where an event is refused, but for Leg facilities.
+//! What occurs where an event is refused, but for Leg facilities and Informs.
 
 use crate::board::{Call, Reference, Standing};
 use crate::event::{Event, HOLD, OPEN, PROGRESS};
@@ -7,7 +7,7 @@ use crate::notice_leg;
 use crate::tally::{Seen, Tally};
 
 /// The reference that stands first in the body of most records.
-fn reference(record: &[u8]) -> Reference {
+pub fn reference(record: &[u8]) -> Reference {
     Reference(u16::from_be_bytes([record[1], record[2]]))
 }
 

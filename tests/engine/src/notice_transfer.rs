@@ -3,7 +3,8 @@
 use crate::board::{Aux, Board, Call, CallState, Row};
 use crate::notice::Past;
 use crate::notice_component::row_of;
-use crate::reply::mark;
+use crate::notice_inform;
+use crate::reply::Told;
 use crate::tally::{Seen, Tally};
 
 /// What transfers of one operation are counted by.
@@ -48,7 +49,7 @@ pub fn transferred(
     tally.add_if(a.link.is_some(), Seen::TransferLinkNamed);
     tally.add_if(b.link.is_some(), Seen::TransferLinkOther);
     placed(board, (named, a), (other, b), seen, tally);
-    told((named, a), (other, b), seen, tally);
+    told((named, a), (other, b), seen, past, tally);
 }
 
 /// How the named call stands to the other.
@@ -63,7 +64,7 @@ fn placed(board: &Board, named: (&Row, &Call), other: (&Row, &Call), seen: &Tran
 }
 
 /// Which of the two alerts, and what the parties are told.
-fn told(named: (&Row, &Call), other: (&Row, &Call), seen: &Transfers, tally: &mut Tally) {
+fn told(named: (&Row, &Call), other: (&Row, &Call), seen: &Transfers, past: &Past, tally: &mut Tally) {
     let ((row, a), (second, b)) = (named, other);
     let (state, alerting, active) = match (a.state, b.state) {
         (CallState::Delivered, _) => (seen.states[1], a, second),
@@ -71,13 +72,17 @@ fn told(named: (&Row, &Call), other: (&Row, &Call), seen: &Transfers, tally: &mu
         _ => {
             tally.add(seen.states[0]);
             let marks = [Seen::TellUnknown, Seen::TellGiven, Seen::TellWithheld];
-            tally.add(marks[mark(row) as usize]);
-            return tally.add(marks[mark(second) as usize]);
+            for row in [row, second] {
+                tally.add(marks[Told::of(row).mark() as usize]);
+                notice_inform::own_number_told(row, past, tally);
+            }
+            return;
         }
     };
     tally.add(state);
     let held = alerting.aux == Aux::Held;
     tally.add(if held { Seen::TransferAlertingHeld } else { Seen::TransferAlertingIdle });
     let marks = [Seen::NotifyUnknown, Seen::NotifyGiven, Seen::NotifyWithheld];
-    tally.add(marks[mark(active) as usize]);
+    tally.add(marks[Told::of(active).mark() as usize]);
+    notice_inform::own_number_told(active, past, tally);
 }

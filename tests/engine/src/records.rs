@@ -1,8 +1,8 @@
 //! Building event records and components.
 
 use crate::board::{LinkId, Reference};
-use crate::component::{EXPLICIT, LINK_REQUEST, OBJECT, SUBADDRESS};
-use crate::event::{ANSWER, FACILITY, HOLD, LEG_FACILITY, OPEN, PROGRESS, RELEASE};
+use crate::component::{ECT_INFORM, EXPLICIT, LINK_REQUEST, OBJECT, SUBADDRESS};
+use crate::event::{ANSWER, FACILITY, HOLD, INFORM, LEG_FACILITY, OPEN, PROGRESS, RELEASE};
 
 /// An Open record. `digits` has at most fifteen octets.
 pub fn open(reference: Reference, leg: u32, direction: u8, presentation: u8, digits: &[u8]) -> Vec<u8> {
@@ -35,26 +35,28 @@ pub fn answer(leg: u32) -> Vec<u8> {
     vec![ANSWER, a, b, c, d]
 }
 
-/// A Facility record. What a component has beyond 32 octets is left off.
-pub fn facility(reference: Reference, component: &[u8]) -> Vec<u8> {
-    let component = &component[..component.len().min(32)];
-    let mut record = vec![FACILITY];
-    record.extend(reference.0.to_be_bytes());
+/// A record with a component: its kind, the reference or leg, the count, the component, zeros.
+/// What the component has beyond so many octets is left off.
+pub fn with_component(kind: u8, named: &[u8], component: &[u8], room: usize) -> Vec<u8> {
+    let component = &component[..component.len().min(room)];
+    let mut record = vec![kind];
+    record.extend(named);
     record.push(component.len() as u8);
     record.extend(component);
-    record.resize(36, 0);
+    record.resize(2 + named.len() + room, 0);
     record
 }
 
-/// A Leg facility record. What a component has beyond 64 octets is left off.
+pub fn facility(reference: Reference, component: &[u8]) -> Vec<u8> {
+    with_component(FACILITY, &reference.0.to_be_bytes(), component, 32)
+}
+
 pub fn leg_facility(leg: u32, component: &[u8]) -> Vec<u8> {
-    let component = &component[..component.len().min(64)];
-    let mut record = vec![LEG_FACILITY];
-    record.extend(leg.to_be_bytes());
-    record.push(component.len() as u8);
-    record.extend(component);
-    record.resize(70, 0);
-    record
+    with_component(LEG_FACILITY, &leg.to_be_bytes(), component, 64)
+}
+
+pub fn inform(reference: Reference, component: &[u8]) -> Vec<u8> {
+    with_component(INFORM, &reference.0.to_be_bytes(), component, 64)
 }
 
 /// An element of up to 127 octets.
@@ -94,7 +96,7 @@ pub fn execute(identifier: &[u8]) -> Vec<u8> {
 }
 
 pub fn explicit(identifier: &[u8], link: &[u8]) -> Vec<u8> {
-    invoke(&[identifier, &object(EXPLICIT), link])
+    with_argument(EXPLICIT, identifier, link)
 }
 
 pub fn explicit_link(identifier: &[u8], link: LinkId) -> Vec<u8> {
@@ -105,7 +107,15 @@ pub fn link_request(identifier: &[u8]) -> Vec<u8> {
     invoke(&[identifier, &object(LINK_REQUEST)])
 }
 
-/// A SubaddressTransfer invoke with that argument.
+/// An invoke of the operation whose object identifier ends so, with that argument.
+pub fn with_argument(operation: u8, identifier: &[u8], argument: &[u8]) -> Vec<u8> {
+    invoke(&[identifier, &object(operation), argument])
+}
+
 pub fn subaddress_transfer(identifier: &[u8], argument: &[u8]) -> Vec<u8> {
-    invoke(&[identifier, &object(SUBADDRESS), argument])
+    with_argument(SUBADDRESS, identifier, argument)
+}
+
+pub fn ect_inform(identifier: &[u8], argument: &[u8]) -> Vec<u8> {
+    with_argument(ECT_INFORM, identifier, argument)
 }

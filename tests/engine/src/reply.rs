@@ -1,6 +1,6 @@
 //! Writing reply records into the lent buffer.
 
-use crate::board::{LinkId, Reference, Row, RESTRICTED};
+use crate::board::{LinkId, Number, Reference, Row, RESTRICTED};
 use crate::component::OBJECT;
 
 pub const BUFFER: usize = 128;
@@ -99,14 +99,12 @@ impl<'a> Replies<'a> {
         self.put(&component.octets);
     }
 
-    /// `about` is the party whose number is sent, none where no number is sent.
-    pub fn tell(&mut self, leg: u32, message: Message, description: u8, request: u8, about: Option<&Row>) {
+    pub fn tell(&mut self, leg: u32, message: Message, description: u8, request: u8, number: Told) {
         let [a, b, c, d] = leg.to_be_bytes();
-        let mark = about.map_or(0, mark);
-        self.put(&[0x82, a, b, c, d, message as u8, description, mark, request]);
-        match about {
-            Some(row) if mark == 1 => self.put(&row.number.0),
-            _ => self.put(&[0; 16]),
+        self.put(&[0x82, a, b, c, d, message as u8, description, number.mark(), request]);
+        match number {
+            Told::Given(number) => self.put(&number.0),
+            _ => self.put(&Number::NONE.0),
         }
     }
 
@@ -129,11 +127,29 @@ impl<'a> Replies<'a> {
     }
 }
 
-/// 0 unknown, 1 given, 2 withheld; without digits there is nothing to withhold.
-pub fn mark(row: &Row) -> u8 {
-    match (row.number.count(), row.presentation) {
-        (0, _) => 0,
-        (_, RESTRICTED) => 2,
-        _ => 1,
+/// A number as a party is told it; unknown also where none is sent.
+#[derive(Clone, Copy, PartialEq, Eq, Debug)]
+pub enum Told {
+    Unknown,
+    Given(Number),
+    Withheld,
+}
+
+impl Told {
+    /// The number of a row's party; without digits there is nothing to withhold.
+    pub fn of(row: &Row) -> Told {
+        match (row.number.count(), row.presentation) {
+            (0, _) => Told::Unknown,
+            (_, RESTRICTED) => Told::Withheld,
+            _ => Told::Given(row.number),
+        }
+    }
+
+    pub fn mark(self) -> u8 {
+        match self {
+            Told::Unknown => 0,
+            Told::Given(_) => 1,
+            Told::Withheld => 2,
+        }
     }
 }

@@ -91,6 +91,17 @@ impl<'a> Script<'a> {
         Some(leg).filter(|&leg| self.absent(leg))
     }
 
+    /// A reference that no call has; often one that a call had.
+    pub fn absent_reference(&mut self) -> Reference {
+        if !self.old_references.is_empty() && self.rng.percent(60) {
+            let reference = self.rng.pick(&self.old_references);
+            if self.call(reference).is_none() {
+                return reference;
+            }
+        }
+        self.fresh_reference()
+    }
+
     fn absent(&self, leg: u32) -> bool {
         self.board.rows.iter().all(|row| row.leg != leg || row.standing == Standing::Empty)
     }

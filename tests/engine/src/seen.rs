@@ -1,9 +1,9 @@
-//! What occurs in the logs, but for Leg facilities.
+//! What occurs in the logs, but for Leg facilities and Informs.
 
-use crate::tally::occurrences;
+use crate::tally::{before, occurrences};
 
 occurrences! {
-    Seen, behind 0;
+    Seen, behind before(0);
     OptionsNone = "options 00 00",
     OptionsAlerting = "options 00 01",
     OptionsSubscribed = "options 01 00",

@@ -3,7 +3,7 @@
 use crate::board::{Aux, Board, Call, CallState, LinkId, Row, Standing, MAX_LIVE, OUTGOING, ROWS};
 use crate::component::{read, Operation, Reading, LINK_REQUEST};
 use crate::lookup::Lookup;
-use crate::reply::{Component, Message, Replies, ACTIVE, ALERTING};
+use crate::reply::{Component, Message, Replies, Told, ACTIVE, ALERTING};
 
 pub const NOT_SUBSCRIBED: u8 = 0;
 pub const INVALID_STATE: u8 = 7;
@@ -148,10 +148,10 @@ fn transfer(board: &mut Board, named: usize, other: usize, replies: &mut Replies
 /// Tells a party of its new partner.
 fn tell_joined(to: &Row, to_alerts: bool, about: &Row, about_alerts: bool, replies: &mut Replies) {
     if about_alerts {
-        replies.tell(to.leg, Message::Facility, ALERTING, 1, None);
+        replies.tell(to.leg, Message::Facility, ALERTING, 1, Told::Unknown);
     } else if to_alerts {
-        replies.tell(to.leg, Message::Notify, ACTIVE, 0, Some(about));
+        replies.tell(to.leg, Message::Notify, ACTIVE, 0, Told::of(about));
     } else {
-        replies.tell(to.leg, Message::Facility, ACTIVE, 1, Some(about));
+        replies.tell(to.leg, Message::Facility, ACTIVE, 1, Told::of(about));
     }
 }

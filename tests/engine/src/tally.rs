@@ -1,11 +1,14 @@
 //! How often each occurrence was met. All of them have to be met for a run to count.
 
 pub use crate::seen::Seen;
+use crate::seen_carrier::CarrierSeen;
+use crate::seen_inform::{InformSeen, NumberSeen};
 use crate::seen_leg::LegSeen;
 
-/// Declares a list of occurrences, whose places among all begin behind those of the lists before.
+/// Declares a list of occurrences. Its places among all begin behind those of the lists before;
+/// where it is counted for each of several owners, those of the first owner come first.
 macro_rules! occurrences {
-    ($list:ident, behind $before:expr; $($name:ident = $text:literal,)*) => {
+    ($list:ident, for each $owner:ty, behind $before:expr; $($name:ident = $text:literal,)*) => {
         #[derive(Clone, Copy, PartialEq, Eq, Debug)]
         pub enum $list { $($name),* }
 
@@ -13,9 +16,18 @@ macro_rules! occurrences {
             pub const TEXTS: &'static [&'static str] = &[$($text),*];
         }
 
+        impl $crate::tally::Occurrence for ($owner, $list) {
+            fn place(self) -> usize {
+                $before + self.0 as usize * $list::TEXTS.len() + self.1 as usize
+            }
+        }
+    };
+    ($list:ident, behind $before:expr; $($names:tt)*) => {
+        occurrences! { $list, for each $crate::tally::Alone, behind $before; $($names)* }
+
         impl $crate::tally::Occurrence for $list {
             fn place(self) -> usize {
-                $before + self as usize
+                ($crate::tally::Alone::Alone, self).place()
             }
         }
     };
@@ -28,8 +40,34 @@ pub trait Occurrence {
     fn place(self) -> usize;
 }
 
-/// The occurrences of all lists.
-const ALL: usize = Seen::TEXTS.len() + LegSeen::TEXTS.len();
+/// The owner of a list that is counted once.
+#[derive(Clone, Copy)]
+pub enum Alone {
+    Alone,
+}
+
+/// The lists in their order, each with what its texts begin with.
+const LISTS: [(&str, &[&str]); 7] = [
+    ("", Seen::TEXTS),
+    ("", LegSeen::TEXTS),
+    ("", InformSeen::TEXTS),
+    ("Leg facility, ", CarrierSeen::TEXTS),
+    ("Inform, ", CarrierSeen::TEXTS),
+    ("Inform of alerting, ", NumberSeen::TEXTS),
+    ("Inform of active, ", NumberSeen::TEXTS),
+];
+
+/// The occurrences of so many lists.
+pub const fn before(list: usize) -> usize {
+    let (mut sum, mut place) = (0, 0);
+    while place < list {
+        sum += LISTS[place].1.len();
+        place += 1;
+    }
+    sum
+}
+
+const ALL: usize = before(LISTS.len());
 
 pub struct Tally {
     counts: [u64; ALL],
@@ -53,8 +91,10 @@ impl Tally {
     }
 
     /// The text of each occurrence with its count.
-    fn lines(&self) -> impl Iterator<Item = (&'static str, u64)> + '_ {
-        Seen::TEXTS.iter().chain(LegSeen::TEXTS).copied().zip(self.counts)
+    fn lines(&self) -> impl Iterator<Item = (String, u64)> + '_ {
+        let texts =
+            LISTS.iter().flat_map(|(front, texts)| texts.iter().map(move |text| format!("{front}{text}")));
+        texts.zip(self.counts)
     }
 
     /// One line for each occurrence, and the sums.
@@ -66,7 +106,16 @@ impl Tally {
     }
 
     /// The occurrences that were never met.
-    pub fn missing(&self) -> Vec<&'static str> {
-        self.lines().filter(|(_, count)| *count == 0).map(|(text, _)| text).collect()
+    pub fn missing(&self) -> Vec<String> {
+        self.texts(|count| count == 0)
+    }
+
+    /// Those that were.
+    pub fn met(&self) -> Vec<String> {
+        self.texts(|count| count > 0)
+    }
+
+    fn texts(&self, test: fn(u64) -> bool) -> Vec<String> {
+        self.lines().filter(|(_, count)| test(*count)).map(|(text, _)| text).collect()
     }
 }

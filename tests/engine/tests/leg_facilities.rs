@@ -1,17 +1,15 @@
-//! Leg facilities: what is passed on, the refusals in their order, and what has to hold.
+//! Leg facilities: what is passed on, what is refused, and what has to hold.
 
 mod common;
 
-use common::{pass_on, Desk, ID};
+use common::{met, pass_on, refused, Desk, ID};
 use engine::board::{Board, Reference, Standing};
-use engine::event::event;
-use engine::notice::{watch, Moment};
-use engine::notice_leg::stands;
+use engine::notice::Moment;
+use engine::places::stands;
 use engine::records::{
     answer, element, execute, facility, leg_facility, link_request, open, progress, release,
     subaddress_transfer,
 };
-use engine::tally::Tally;
 
 fn right() -> Vec<u8> {
     subaddress_transfer(ID, &[4, 1, 0x37])
@@ -28,16 +26,6 @@ fn passed(desk: &mut Desk, leg: u32, component: &[u8]) -> Vec<u8> {
     let octets = desk.ok(&leg_facility(leg, component));
     assert_eq!(desk.board, before);
     octets
-}
-
-/// What a record is refused with, in a buffer of 128 octets; board and buffer stay as they were.
-fn refused(board: &Board, record: &[u8]) -> u8 {
-    let mut after = board.clone();
-    let mut octets = [0x5A; 128];
-    let answer = event(&mut after, record, &mut octets);
-    assert_ne!(answer.returned, 0);
-    assert_eq!((answer.written, &after, octets), (0, board, [0x5A; 128]));
-    answer.returned
 }
 
 #[test]
@@ -110,26 +98,6 @@ fn any_leg_number() {
     assert_eq!(refused(&desk.board, &leg_facility(0, &right())), 10);
 }
 
-/// Legs by who they are: joined, with the served user, not on the board.
-fn legs() -> (Board, [(u32, u8); 4]) {
-    let mut desk = Desk::joined(true);
-    desk.call(3, 0, 10, 2);
-    (desk.board, [(101, 12), (102, 12), (103, 11), (999, 10)])
-}
-
-#[test]
-fn leg_then_standing_then_component() {
-    let (board, legs) = legs();
-    for (leg, returned) in legs {
-        for component in wrong() {
-            assert_eq!(refused(&board, &leg_facility(leg, &component)), returned);
-        }
-        if returned != 12 {
-            assert_eq!(refused(&board, &leg_facility(leg, &right())), returned);
-        }
-    }
-}
-
 #[test]
 fn served_in_any_state() {
     for (direction, state, aux) in [(0, 3, 0), (0, 4, 0), (0, 4, 2), (1, 7, 0), (1, 10, 0), (0, 10, 3)] {
@@ -140,69 +108,6 @@ fn served_in_any_state() {
             assert_eq!(refused(&desk.board, &leg_facility(1, &right())), 10);
         }
     }
-}
-
-/// Whatever leg and component are.
-#[test]
-fn count_and_fill_come_first() {
-    let (board, legs) = legs();
-    for (leg, _) in legs {
-        for component in [right(), vec![0xA1], vec![0xFF; 64]] {
-            let good = leg_facility(leg, &component);
-            for count in [0, 65, 66, 128, 255] {
-                let mut record = good.clone();
-                record[5] = count;
-                assert_eq!(refused(&board, &record), 5);
-            }
-            for place in 6 + component.len()..70 {
-                for octet in [1, 0x80] {
-                    let mut record = good.clone();
-                    record[place] = octet;
-                    assert_eq!(refused(&board, &record), 5, "octet {place}");
-                }
-            }
-        }
-    }
-}
-
-/// A count that leaves out an octet other than 00 leaves a fill octet; else the component is wrong.
-#[test]
-fn count_of_another_component() {
-    let (board, _) = legs();
-    for (last, returned) in [(0x37, 5), (0x00, 12)] {
-        let mut record = leg_facility(101, &subaddress_transfer(ID, &[4, 1, last]));
-        record[5] -= 1;
-        assert_eq!(refused(&board, &record), returned);
-        record[5] += 2;
-        assert_eq!(refused(&board, &record), 12);
-    }
-}
-
-#[test]
-fn length_comes_before_count_and_fill() {
-    let (board, legs) = legs();
-    for (leg, _) in legs {
-        for count in [0, 16, 65] {
-            let mut record = leg_facility(leg, &right());
-            record[5] = count;
-            for length in [1, 5, 6, 36, 69] {
-                assert_eq!(refused(&board, &record[..length]), 3);
-            }
-            assert_eq!(refused(&board, &[record.as_slice(), &[0]].concat()), 3);
-            record[0] = 10;
-            assert_eq!(refused(&board, &record), 4);
-        }
-    }
-}
-
-#[test]
-fn buffer_and_board_come_before_all() {
-    let (mut board, _) = legs();
-    let record = leg_facility(101, &right());
-    assert_eq!(event(&mut board, &record, &mut [0; 127]).returned, 1);
-    board.rows[63].presentation = 1;
-    assert_eq!(event(&mut board, &record, &mut [0; 127]).returned, 1);
-    assert_eq!(event(&mut board, &record, &mut [0; 128]).returned, 2);
 }
 
 /// On a call the operation is one that is not served, with its argument or without.
@@ -236,7 +141,9 @@ fn differences_are_faults() {
     cut[5 + right().len()] = 0;
     assert_eq!(fault(&board, &record, 0, &pass_on(101, &right())), Ok(()));
     assert_eq!(fault(&board, &wrong, 12, &[]), Ok(()));
-    assert!(fault(&answered, &record, 0, &pass_on(101, &right())).unwrap_err().contains("changed the board"));
+    assert!(fault(&answered, &record, 0, &pass_on(101, &right()))
+        .unwrap_err()
+        .contains("the board has changed"));
     for written in [pass_on(102, &right()), cut, vec![]] {
         assert!(fault(&board, &record, 0, &written).unwrap_err().contains("has to return 0"));
     }
@@ -250,8 +157,8 @@ fn differences_are_faults() {
     }
 }
 
-/// What occurs of Leg facilities in a log that joins legs 1 and 2, of which 2 alerts, and goes on so.
-fn met(records: &[Vec<u8>]) -> Vec<&'static str> {
+/// A log that joins legs 1 and 2, of which 2 alerts, and goes on so.
+fn log(records: &[Vec<u8>]) -> Vec<u8> {
     let mut log = vec![1, 1];
     for (reference, state) in [(1, 10), (2, 4)] {
         log.extend(open(Reference(reference), reference as u32, 0, 0, b""));
@@ -261,21 +168,17 @@ fn met(records: &[Vec<u8>]) -> Vec<&'static str> {
     log.extend(engine::records::hold(Reference(1), 2));
     log.extend(facility(Reference(1), &execute(ID)));
     log.extend(records.concat());
-    let mut tally = Tally::default();
-    assert_eq!(watch(&log, &mut tally), Ok(()));
-    let missing = tally.missing();
-    let all = engine::seen_leg::LegSeen::TEXTS.iter().copied();
-    all.filter(|text| !missing.contains(text)).collect()
+    log
 }
 
 #[test]
 fn what_occurs_in_the_logs() {
     let from = |leg| leg_facility(leg, &right());
     let has = |records: &[Vec<u8>], text: &str| {
-        let met = met(records);
-        assert!(met.contains(&text), "{met:?}");
+        assert!(!met(&log(&[])).iter().any(|met| met == text));
+        let met = met(&log(records));
+        assert!(met.iter().any(|met| met == text), "{text}: {met:?}");
     };
-    assert_eq!(met(&[]), [] as [&str; 0]);
     has(&[from(2)], "Pass on from the alerting leg");
     has(&[from(1)], "Pass on to the alerting leg");
     has(&[answer(2), from(1)], "Pass on to a leg that has answered");
@@ -291,6 +194,6 @@ fn what_occurs_in_the_logs() {
     has(&[release(2), from(2)], "10: Leg facility, leg was released");
     has(&[release(2), from(1)], "10: Leg facility, leg went with its partner");
     has(&[from(3)], "10: Leg facility, leg was never released");
-    has(&[from(2)[..69].to_vec()], "3: Leg facility, 69 octets");
-    has(&[from(2), vec![0]], "Leg facility with one octet behind it, then the log ends");
+    has(&[from(2)[..69].to_vec()], "Leg facility, 3: one octet short");
+    has(&[from(2), vec![0]], "Leg facility, one octet behind it, then the log ends");
 }

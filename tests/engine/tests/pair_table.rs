@@ -4,12 +4,10 @@ mod common;
 
 use common::calls;
 use engine::board::{Aux, Call, CallState, LinkId, Reference};
-use engine::notice::watch;
 use engine::notice_pair::{agreed, came_of_it};
 use engine::pair_table::{entry, situation, SITUATIONS, TABLE};
 use engine::records;
 use engine::serve::{pairs_at, verdict};
-use engine::tally::Tally;
 
 #[test]
 fn situations_are_numbered_in_order() {
@@ -110,7 +108,7 @@ fn differences_are_faults() {
 }
 
 /// The occurrences of a log in which the calls of two situations are opened and asked to be transferred.
-fn met(named: usize, other: usize, alerting: u8) -> Vec<&'static str> {
+fn met(named: usize, other: usize, alerting: u8) -> Vec<String> {
     let mut log = vec![1, alerting];
     for (reference, number) in [(1, named), (2, other)] {
         let call = calls()[number];
@@ -124,11 +122,7 @@ fn met(named: usize, other: usize, alerting: u8) -> Vec<&'static str> {
         }
     }
     log.extend(records::facility(Reference(1), &records::execute(&[2, 1, 5])));
-    let mut tally = Tally::default();
-    assert_eq!(watch(&log, &mut tally), Ok(()));
-    let all = Tally::default().missing();
-    let missing = tally.missing();
-    all.into_iter().filter(|text| text.starts_with("verdict ") && !missing.contains(text)).collect()
+    common::met(&log).into_iter().filter(|text| text.starts_with("verdict ")).collect()
 }
 
 #[test]
@@ -137,7 +131,7 @@ fn what_occurs_in_the_logs() {
         for (other, b) in calls().iter().enumerate().filter(|(_, call)| call.sound()) {
             for alerting in [0, 1] {
                 let met = met(named, other, alerting);
-                let begins = |text: &&str, verdict: u8| text.starts_with(&format!("verdict {verdict}"));
+                let begins = |text: &String, verdict: u8| text.starts_with(&format!("verdict {verdict}"));
                 match verdict(a, b) {
                     0 => assert!(met.len() <= 1 && met.iter().all(|text| begins(text, 0)), "{met:?}"),
                     verdict => {

@@ -2,22 +2,9 @@
 
 mod common;
 
-use common::Desk;
+use common::{refused_with as refused, Desk};
 use engine::board::{Board, Reference, Row, Standing, RESTRICTED};
-use engine::event::event;
-use engine::records::{answer, execute, facility, hold, leg_facility, open, progress, release};
-
-/// Plays a record that has to be refused and checks that nothing changed.
-fn refused(board: &Board, record: &[u8], buffer: usize) -> u8 {
-    let mut after = board.clone();
-    let mut octets = vec![0x5A; buffer];
-    let answer = event(&mut after, record, &mut octets);
-    assert_ne!(answer.returned, 0);
-    assert_eq!(answer.written, 0);
-    assert_eq!(&after, board);
-    assert!(octets.iter().all(|&octet| octet == 0x5A));
-    answer.returned
-}
+use engine::records::{answer, execute, facility, hold, inform, leg_facility, open, progress, release};
 
 fn unsound() -> Board {
     let (_, mut board) = Board::fresh(1, 1);
@@ -73,6 +60,7 @@ fn kind_comes_before_length() {
         facility(Reference(1), &[0xA2]),
         answer(1),
         leg_facility(1, &[0xA1]),
+        inform(Reference(1), &[0xA1]),
     ];
     for record in whole {
         for length in 1..record.len() {
@@ -114,6 +102,7 @@ fn fields_of_the_others() {
         assert_eq!(refused(&board, &progress(Reference(reference), 4), 128), 5);
         assert_eq!(refused(&board, &hold(Reference(reference), 1), 128), 5);
         assert_eq!(refused(&board, &facility(Reference(reference), &[0xA2]), 128), 5);
+        assert_eq!(refused(&board, &inform(Reference(reference), &[0xA1]), 128), 5);
     }
     for count in [0, 33, 255] {
         let mut record = facility(Reference(1), &[0xA2]);

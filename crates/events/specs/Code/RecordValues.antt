@@ -7,7 +7,7 @@ use Rattle.events.specs.declared.Refusal.TheVariants.{WrongLength, FieldOutOfRan
 use Rattle.events.specs.declared.records.Request.{Request as Asked}
 use Rattle.events.specs.declared.records.Request.TheVariants as asked
 use Rattle.events.specs.EventRecords.{Request, Malformed, Open, Progress, Hold, Release, Facility, Answer}
-use Rattle.events.specs.EventRecords.{LegFacility, field}
+use Rattle.events.specs.EventRecords.{LegFacility, Inform, field}
 
 -- the request that an answer stands for
 abbrev pub request_read : Result Asked Refusal → Request
@@ -19,6 +19,7 @@ request_read (Ok (asked.Release l)) = Release l
 request_read (Ok (asked.Facility r c)) = Facility r.0 c.now
 request_read (Ok (asked.Answer l)) = Answer l
 request_read (Ok (asked.LegFacility l n os)) = LegFacility l n os.now
+request_read (Ok (asked.Inform r c)) = Inform r.0 c.now
 
 -- the reference, where it is in range
 abbrev pub reference_read : ℕ → Result CallReference Refusal

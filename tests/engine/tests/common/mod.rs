@@ -3,7 +3,9 @@
 
 use engine::board::{Aux, Board, Call, CallState, LinkId, Reference};
 use engine::event::event;
+use engine::notice::watch;
 use engine::records;
+use engine::tally::Tally;
 
 pub const ID: &[u8] = &[0x02, 0x01, 0x05];
 
@@ -103,6 +105,29 @@ pub fn reply_component(octets: &[u8], reference: u16) -> Vec<u8> {
     octets[4..4 + count].to_vec()
 }
 
+/// What a record is refused with, in a buffer of 128 octets; board and buffer stay as they were.
+pub fn refused(board: &Board, record: &[u8]) -> u8 {
+    refused_with(board, record, 128)
+}
+
+/// The same in a buffer of so many octets.
+pub fn refused_with(board: &Board, record: &[u8], buffer: usize) -> u8 {
+    let mut after = board.clone();
+    let mut octets = vec![0x5A; buffer];
+    let answer = event(&mut after, record, &mut octets);
+    assert_ne!(answer.returned, 0);
+    assert_eq!((answer.written, &after), (0, board));
+    assert!(octets.iter().all(|&octet| octet == 0x5A));
+    answer.returned
+}
+
+/// What occurs in a log.
+pub fn met(log: &[u8]) -> Vec<String> {
+    let mut tally = Tally::default();
+    assert_eq!(watch(log, &mut tally), Ok(()));
+    tally.met()
+}
+
 /// A Tell record.
 pub fn tell(leg: u32, message: u8, description: u8, mark: u8, request: u8, digits: &[u8]) -> Vec<u8> {
     let mut octets = vec![0x82];
@@ -113,24 +138,14 @@ pub fn tell(leg: u32, message: u8, description: u8, mark: u8, request: u8, digit
     octets
 }
 
-/// A record of that length with a component: its kind, whom it goes to, the count, the component, zeros.
-fn with_component(kind: u8, to: &[u8], component: &[u8], length: usize) -> Vec<u8> {
-    let mut octets = vec![kind];
-    octets.extend(to);
-    octets.push(component.len() as u8);
-    octets.extend(component);
-    octets.resize(length, 0);
-    octets
-}
-
 /// A Reply record.
 pub fn reply(reference: u16, component: &[u8]) -> Vec<u8> {
-    with_component(0x81, &reference.to_be_bytes(), component, 36)
+    records::with_component(0x81, &reference.to_be_bytes(), component, 32)
 }
 
 /// A Pass on record.
 pub fn pass_on(leg: u32, component: &[u8]) -> Vec<u8> {
-    with_component(0x85, &leg.to_be_bytes(), component, 70)
+    records::with_component(0x85, &leg.to_be_bytes(), component, 64)
 }
 
 /// Two Drop records.
