@@ -24,6 +24,7 @@ pub record Made : Type 0 where
   pub board : Board
 
 -- "Making a fresh board takes one octet per option, each 0 or 1; else 5 is returned with an empty board, both options 0."
+-- "5 for a second option octet above 3 when a board is made" (document 02, slip 7)
 abbrev pub making_refused : Made
 making_refused = record { returned = 5; board = empty_board (options 0 0) }
 

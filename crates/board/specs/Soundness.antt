@@ -43,10 +43,11 @@ valid_connection (WithPartner p a) = true
 abbrev pub valid_entry : Entry → Bool
 valid_entry e = valid_connection e.connection
 
--- ---- "options are 0 or 1"
+-- ---- "options are 0 or 1"; "2 for a board with one", a second option octet above 3; "the first stays 0 or 1"
+-- ---- (document 02, slip 7)
 
 abbrev pub valid_options : Options → Bool
-valid_options o = leb o.subscribed 1 && leb o.alerting 1
+valid_options o = leb o.subscribed 1 && leb o.alerting 3
 
 -- ---- "legs are distinct, references are distinct, live LinkIds are distinct and at most 16"
 

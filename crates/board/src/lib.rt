@@ -4,6 +4,7 @@
 ghost use Rattle.std.specs.Prelude.{◌≡◌};
 ghost use Rattle.std.specs.Result.{result_ok};
 ghost use Rattle.board.specs.States.{direction_with, auxiliary_with, valid_reference};
+ghost use Rattle.board.specs.RuleSets.{rule_set, alerting_allowed};
 ghost use Rattle.board.specs.Soundness.{valid_digits, valid_number, valid_options};
 ghost use Rattle.board.specs.Code.Tallies.{counts_in};
 ghost use Rattle.board.specs.Making.{empty_row, empty_board, made_answer, fresh as fresh_board};
@@ -113,11 +114,36 @@ pub struct Row {
     pub standing: Standing,
 }
 
-// Octets, as in a PartyNumber.
+// Octets, as in a PartyNumber. The second says two things: the rule set, and whether a party that still alerts is
+// transferred.
 #[derive(Clone, Copy, Debug)]
 pub struct Options {
     pub subscribed: u8,
     pub alerting: u8,
+}
+
+// The rules by which calls pair, and by which parties are told: those of ETS 300 369-1, or of T1.643.
+#[derive(Clone, Copy, Debug, PartialEq, Eq)]
+pub enum RuleSet {
+    European,
+    American,
+}
+
+impl Options {
+    pub fn rule_set(self) -> RuleSet
+        ensures { result ≡ rule_set self }
+    {
+        if 2 <= self.alerting {
+            return RuleSet::American;
+        }
+        RuleSet::European
+    }
+
+    pub fn is_alerting_allowed(self) -> bool
+        ensures { result ≡ alerting_allowed self }
+    {
+        matches!(self.alerting, 1 | 3)
+    }
 }
 
 #[derive(Clone, Copy, Debug)]
@@ -164,9 +190,9 @@ pub enum Change {
     ReleasePair(u32, u32),
 }
 
-// The refusal to make a board, an option being neither 0 nor 1. It brings the empty board with both options 0.
+// The refusal to make a board, an option being outside its range. It brings the empty board with both options 0.
 #[derive(Clone, Copy, Debug, Error)]
-#[error("an option is neither 0 nor 1")]
+#[error("an option is outside its range")]
 pub struct BadOptions {
     pub board: Board,
 }
@@ -252,14 +278,14 @@ pub fn valid_number(number: PartyNumber) -> bool
     number.presentation <= 1 && valid_digits(number.count, &number.digits)
 }
 
-// Options are 0 or 1.
+// The first is 0 or 1, the second 0 to 3.
 pub fn valid_options(options: Options) -> bool
     ensures { result ≡ valid_options options }
 {
-    options.subscribed <= 1 && options.alerting <= 1
+    options.subscribed <= 1 && options.alerting <= 3
 }
 
-// A fresh board of two option octets, each 0 or 1.
+// A fresh board of two option octets.
 #[tactic(auto, unfolding(crate::specs::Making::fresh))]
 pub fn fresh(subscribed: u8, alerting: u8) -> Result<Board, BadOptions>
     ensures { made_answer result ≡ fresh_board subscribed alerting }

@@ -18,6 +18,20 @@ pub fn execute(reference: u8) -> [u8; 36] {
     padded(&[5, 0, reference, 8, 0xa1, 6, 2, 1, 5, 2, 1, 6])
 }
 
+// EctLinkIdRequest on the call with that reference: a1 0b, identifier 02 01 05, and the object identifier that ends 04.
+pub fn request(reference: u8) -> [u8; 36] {
+    padded(&[
+        5, 0, reference, 13, 0xa1, 11, 2, 1, 5, 6, 6, 4, 0, 0x82, 0x71, 1, 4,
+    ])
+}
+
+// ExplicitEctExecute on the call with that reference, with that LinkId.
+pub fn execute_explicitly(reference: u8, link_id: u8) -> [u8; 36] {
+    padded(&[
+        5, 0, reference, 16, 0xa1, 14, 2, 1, 5, 6, 6, 4, 0, 0x82, 0x71, 1, 1, 2, 1, link_id,
+    ])
+}
+
 // The Leg facility of this leg with a subaddress of one octet, 37, in an invoke of the object identifier that ends so.
 pub fn leg_facility(leg: u8, last: u8) -> [u8; 70] {
     padded(&[

@@ -1,6 +1,6 @@
 // How an exchange calls `step`: a held call and an alerting one are transferred to each other, the ward's subaddress
-// is passed on, and the ward answers.
-use crate::records::{execute, leg_facility, open};
+// is passed on, and the ward answers; by American rules the call is not held, and the ward is told when it answers.
+use crate::records::{execute, execute_explicitly, leg_facility, open, request};
 use crate::show::Replied;
 use board::{Board, Direction};
 use std::io;
@@ -11,6 +11,14 @@ fn event(rt: &impl Print, board: Board, octets: &[u8]) -> io::Result<Board> {
     let stepped = ect::step(board, octets, &mut reply);
     println!(rt; "{}", Replied(stepped.answer, &reply))?;
     Ok(stepped.board)
+}
+
+fn each(rt: &impl Print, fresh: Board, events: &[&[u8]]) -> io::Result<()> {
+    let mut board = fresh;
+    for octets in events {
+        board = event(rt, board, octets)?;
+    }
+    Ok(())
 }
 
 pub fn ward_transfer(rt: &impl Print, fresh: Board) -> io::Result<()> {
@@ -28,9 +36,26 @@ pub fn ward_transfer(rt: &impl Print, fresh: Board) -> io::Result<()> {
         &leg_facility(2, 4),
         b"\x06\x00\x00\x00\x02",
     ];
-    let mut board = fresh;
-    for octets in events {
-        board = event(rt, board, octets)?;
-    }
-    Ok(())
+    each(rt, fresh, &events)
+}
+
+pub fn american_transfer(rt: &impl Print) -> io::Result<()> {
+    let fresh = match board::fresh(1, 3) {
+        Ok(fresh) => fresh,
+        Err(refused) => return println!(rt; "{refused}"),
+    };
+    // EctExecute is rejected; the call's own LinkId is answered with error 7, and the ward's LinkId joins the two.
+    let events: [&[u8]; 10] = [
+        &open(1, 1, Direction::Incoming, *b"21"),
+        b"\x02\x00\x01\x0a",
+        &open(2, 2, Direction::Outgoing, *b"22"),
+        b"\x02\x00\x02\x04",
+        &request(1),
+        &request(2),
+        &execute(1),
+        &execute_explicitly(1, 0),
+        &execute_explicitly(1, 1),
+        b"\x06\x00\x00\x00\x02",
+    ];
+    each(rt, fresh, &events)
 }

@@ -38,6 +38,7 @@ fn transfer(
     applied(
         Change::Join(first.leg, second.leg),
         replies::transfer(
+            board.options.rule_set(),
             party.call.reference,
             identifier,
             far_party(board, first),

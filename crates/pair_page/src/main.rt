@@ -1,7 +1,7 @@
-// Prints the table of verdicts as a page for paper: docs/PAIR-TABLE.md.
+// Prints the tables of verdicts as a page for paper: docs/PAIR-TABLE.md.
 #![tactic(auto)]
 
-use board::{AuxiliaryState, CallState, Direction};
+use board::{AuxiliaryState, CallState, Direction, RuleSet};
 use situations::situations;
 use std::io;
 use verdicts::{pair_table, situation, verdict_in};
@@ -63,8 +63,8 @@ fn print_verdict(rt: &impl Print, verdict: u8) -> io::Result<()> {
     }
 }
 
-fn rows(rt: &impl Print) -> io::Result<()> {
-    let table = pair_table();
+fn rows(rt: &impl Print, rules: RuleSet) -> io::Result<()> {
+    let table = pair_table(rules);
     for first in situations() {
         print!(rt; " {:>2} ", situation(first))?;
         for second in situations() {
@@ -76,17 +76,19 @@ fn rows(rt: &impl Print) -> io::Result<()> {
 }
 
 fn numbering(rt: &impl Print) -> io::Result<()> {
-    println!(rt; "# The pair table\n")?;
-    print!(rt; "Whether two calls pair, looked up by their situations. ")?;
+    println!(rt; "# The pair tables\n")?;
+    print!(rt;
+        "Whether two calls pair, looked up by their situations, by European and by American rules. "
+    )?;
     println!(rt;
-        "The program `pair_page` prints this page from the table that the code looks up in.\n"
+        "The program `pair_page` prints this page from the tables that the code looks up in.\n"
     )?;
     println!(rt; "## The number of a situation\n")?;
     print!(rt;
         "8 times the place of the call state, from 0, among 3, 4, 7 and 10, plus twice the auxiliary state, "
     )?;
     print!(rt; "plus the direction. ")?;
-    println!(rt; "On a sound board not all of them occur; the table has a verdict for each.\n")
+    println!(rt; "On a sound board not all of them occur; the tables have a verdict for each.\n")
 }
 
 fn reading(rt: &impl Print) -> io::Result<()> {
@@ -96,15 +98,25 @@ fn reading(rt: &impl Print) -> io::Result<()> {
     println!(rt; "- 0: the calls do not pair.")?;
     println!(rt; "- 1: both are Active, and they pair.")?;
     print!(rt; "- 2: one is Active and one still alerts. ")?;
-    println!(rt; "The alerting option is applied after the lookup: they pair where it is 1.\n")
+    println!(rt;
+        "The alerting option is applied after the lookup: they pair where it is 1 or 3.\n"
+    )?;
+    print!(rt; "By American rules a call can have verdict 1 with itself. ")?;
+    println!(rt; "It never pairs with itself all the same: the other call is another one.")
+}
+
+fn table(rt: &impl Print, name: &str, options: &str, rules: RuleSet) -> io::Result<()> {
+    println!(rt; "\n## {name} rules: alerting option {options}\n")?;
+    println!(rt; "```text")?;
+    heads(rt)?;
+    rows(rt, rules)?;
+    println!(rt; "```")
 }
 
 fn main(rt: HostRuntime) -> io::Result<()> {
     numbering(&rt)?;
     situation_list(&rt)?;
     reading(&rt)?;
-    println!(&rt; "```text")?;
-    heads(&rt)?;
-    rows(&rt)?;
-    println!(&rt; "```")
+    table(&rt, "European", "0 or 1", RuleSet::European)?;
+    table(&rt, "American", "2 or 3", RuleSet::American)
 }

@@ -2,15 +2,16 @@
 #![tactic(auto)]
 
 ghost use Rattle.std.specs.Prelude.{◌≡◌, [], ◌∷◌, ◌++◌, ◌+◌, ◌≤◌, length};
-ghost use Rattle.rules.specs.Replies.{Reply, Tell, Drop, Gone, PassOn, record_octets, mark_only, number_as_told, told};
-ghost use Rattle.rules.specs.Replies.{facility, transferred_active, given, inform_record};
+ghost use Rattle.rules.specs.Replies.{Reply, Tell, Drop, Gone, PassOn, octets, record_octets};
+ghost use Rattle.rules.specs.Replies.{mark_only, number_as_told, told};
+ghost use Rattle.rules.specs.Replies.{facility, transferred_active, given, inform_record, answering_party_told};
 ghost use Rattle.replies.specs.Code.Writing.{rendered, transfer_records};
 ghost use Rattle.replies.specs.Code.Writing.{message_number, description_number, request_number};
 
 use Description::{TransferredActive, TransferredAlerting};
 use Message::{Facility, Notify};
 use arrayvec::ArrayVec;
-use board::PartyNumber;
+use board::{PartyNumber, RuleSet};
 use component::{Answer, encode};
 use octets::{CallReference, IntegerOctets};
 use private_transfers::Indication;
@@ -42,6 +43,13 @@ pub struct FarParty {
     pub reference: CallReference,
     pub leg: u32,
     pub alerts: bool,
+    pub number: TellNumber,
+}
+
+// A leg, and its party's number as it is told.
+#[derive(Clone, Copy)]
+pub struct NumberedLeg {
+    pub leg: u32,
     pub number: TellNumber,
 }
 
@@ -169,17 +177,11 @@ fn pass_on_record(leg: u32, count: u8, component: [u8; 64]) -> [u8; 70]
     joined(&[0x85, a, b, c, d, count], &component)
 }
 
-// What a transfer tells a party of the other.
-fn told_record(party: FarParty, other: FarParty) -> [u8; 25]
-    ensures { result ≡ record_octets (told party.leg party.alerts other.alerts other.number) }
+// What an answer tells a leg of the other's number.
+fn answered_record(leg: u32, number: TellNumber) -> [u8; 25]
+    ensures { result ≡ record_octets (Tell leg facility transferred_active number 0) }
 {
-    if party.alerts {
-        return tell_record(party.leg, Notify, TransferredActive, other.number, false);
-    }
-    if other.alerts {
-        return tell_record(party.leg, Facility, TransferredAlerting, unknown(), true);
-    }
-    tell_record(party.leg, Facility, TransferredActive, other.number, true)
+    tell_record(leg, Facility, TransferredActive, number, false)
 }
 
 impl Out {
@@ -191,6 +193,31 @@ impl Out {
     {
         self.octets.try_extend_from_slice(octets).unwrap();
         self
+    }
+
+    // With what a transfer tells a party of the other: by American rules nothing while it alerts.
+    #[tactic(auto, unfolding(rules::specs::Replies::octets))]
+    fn told(self, rules: RuleSet, party: FarParty, other: FarParty) -> Out
+        requires { length self.octets.items ≤ 103 }
+        ensures items { result.octets.items ≡ self.octets.items ++ octets
+            (told rules party.leg party.alerts other.alerts other.number) }
+        ensures len { length result.octets.items ≤ length self.octets.items + 25 }
+    {
+        let leg = party.leg;
+        let number = other.number;
+        let record = match (rules, party.alerts, other.alerts) {
+            (RuleSet::American, true, _) => return self,
+            (RuleSet::European, true, _) => tell_record(
+                leg,
+                Notify,
+                TransferredActive,
+                number,
+                false,
+            ),
+            (_, false, true) => tell_record(leg, Facility, TransferredAlerting, unknown(), true),
+            (_, false, false) => tell_record(leg, Facility, TransferredActive, number, true),
+        };
+        self.with(&record)
     }
 }
 
@@ -228,12 +255,17 @@ pub fn gone(leg: u32) -> Out
     nothing().with(&gone_record(leg))
 }
 
-// What an answer tells the partner.
+// What an answer tells the partner and, by American rules, after that the leg that answers, each of the other's number.
 #[tactic(auto, unfolding(crate::specs::Code::Writing::rendered, rules::specs::Replies::octets))]
-pub fn answer_told(partner: u32, number: TellNumber) -> Out
-    ensures { result ≡ rendered (Tell partner facility transferred_active number 0 ∷ []) }
+pub fn answer_told(rules: RuleSet, answering: NumberedLeg, partner: NumberedLeg) -> Out
+    ensures { result ≡ rendered (Tell partner.leg facility transferred_active answering.number 0
+        ∷ answering_party_told rules answering.leg partner.number) }
 {
-    nothing().with(&tell_record(partner, Facility, TransferredActive, number, false))
+    let told = nothing().with(&answered_record(partner.leg, answering.number));
+    match rules {
+        RuleSet::European => told,
+        RuleSet::American => told.with(&answered_record(answering.leg, partner.number)),
+    }
 }
 
 // A component of a joined leg, passed on to its partner.
@@ -256,20 +288,21 @@ pub fn inform_told(leg: u32, indication: Indication, number: TellNumber) -> Out
     nothing().with(&record)
 }
 
-// The five records of a transfer, the Reply on the reference of the event.
-#[tactic(auto, unfolding(crate::specs::Code::Writing::rendered, rules::specs::Replies::octets))]
+// The records of a transfer, the Reply on the reference of the event.
+#[tactic(auto, using(rules::proofs::Lengths::both_octets), unfolding(crate::specs::Code::Writing::rendered, rules::specs::Replies::octets, component::specs::Answers::answer_octets))]
 pub fn transfer(
+    rules: RuleSet,
     reference: CallReference,
     identifier: IntegerOctets,
     named: FarParty,
     other: FarParty,
 ) -> Out
-    ensures { result ≡ rendered (transfer_records reference identifier named other) }
+    ensures { result ≡ rendered (transfer_records rules reference identifier named other) }
 {
     nothing()
         .with(&reply_record(reference, Answer::Result(identifier)))
         .with(&drop_record(named.reference))
         .with(&drop_record(other.reference))
-        .with(&told_record(named, other))
-        .with(&told_record(other, named))
+        .told(rules, named, other)
+        .told(rules, other, named)
 }

@@ -14,6 +14,7 @@ use Rattle.board.specs.declared.Entry.{Entry}
 use Rattle.board.specs.declared.Party.{Party}
 use Rattle.board.specs.Entries.{has_leg, has_reference, calls, has_party_reference, link_id_in, has_party_link_id}
 use Rattle.board.specs.LinkIds.{free_link_id, live, most_link_ids}
+use Rattle.board.specs.RuleSets.{rule_set}
 use Rattle.board.specs.States.{active, holdable}
 use Rattle.board.specs.declared.AuxiliaryState.{AuxiliaryState}
 use Rattle.board.specs.declared.CallState.{CallState}
@@ -33,7 +34,7 @@ use Rattle.rules.proofs.Lengths.{Short, nothing_short, reply_short, passed_short
 use Rattle.board.specs.declared.Change.TheVariants as change
 use Rattle.events.specs.Refusals.{refusal_number}
 use Rattle.events.specs.EventRecords.{Answer, Request, Open, Progress, Hold, Release, Facility, LegFacility, Inform, Malformed, in_range}
-use Rattle.rules.specs.Serving.{Service, Silent, Respond, assign, AssignLinkId, partner_for, Transfer, execute, execute_explicitly, error, new_link_id, link_id_request, perform, serve}
+use Rattle.rules.specs.Serving.{Service, Silent, Respond, assign, AssignLinkId, partner_for, Transfer, execute, execute_explicitly, error, new_link_id, link_id_request, perform, is_served, serve}
 use Rattle.events.specs.declared.Refusal.{Refusal}
 use Rattle.octets.proofs.Lists.{filter_mem, only_mem, find_mem}
 use Rattle.octets.specs.Lists.{only, filter, find, any}
@@ -41,6 +42,8 @@ use Rattle.octets.specs.declared.IntegerOctets.{IntegerOctets}
 use Rattle.octets.specs.declared.LinkId.{LinkId}
 use Rattle.events.specs.declared.Refusal.TheVariants as refusal
 use Rattle.component.specs.declared.Answer.{Answer as ComponentAnswer}
+use Rattle.component.specs.declared.Answer.TheVariants as answer
+use Rattle.component.specs.declared.Reject.TheVariants.{Invoke}
 
 -- ---- what a component comes to
 
@@ -84,11 +87,13 @@ module _ (opt : Options) (z : ℤ) (ps : List Party) (p : Party) where
   unfolding serve
   served_is Ignored = silent
   served_is (Rejected r) = respond _
-  served_is (Invoked i op) = go (eqb opt.subscribed 1)
+  served_is (Invoked i op) = go (is_served (rule_set opt) op) (eqb opt.subscribed 1)
     where
-      go : (b : Bool) → ComesTo (cond b (perform opt z ps p i op) (error i 0))
-      go true = perform_is i op
-      go false = respond _
+      go : (a b : Bool) → ComesTo (cond a (cond b (perform opt z ps p i op) (error i 0)) (Respond (answer.Rejected (Invoke i 1))))
+      go true true = perform_is i op
+      go true false = respond _
+      go false true = respond _
+      go false false = respond _
 
 -- ---- what is decided of a request
 
@@ -122,7 +127,7 @@ module _ (opt : Options) (z : ℤ) (w : Bool) (es : List Entry) where
         leb most_link_ids (length (live (calls es))) ≡ false → Decided (Facility r c) (service_decision opt p (AssignLinkId (record { 0 = y }) i))
     transfers : {r : ℕ} {c : List ℕ} {p o : Party} (i : IntegerOctets) → Memᴰ p (calls es) → Memᴰ o (calls es) → partner_for opt p o ≡ true →
         Decided (Facility r c) (service_decision opt p (Transfer p o i))
-    ends_alerting : {l p : ℕ} → Decided (Answer l) (accept (change.EndAlerting l) (answer_told opt l p))
+    ends_alerting : {l p : ℕ} → Decided (Answer l) (accept (change.EndAlerting l) (answer_told (rule_set opt) l p))
 
   open_is : (r l : ℕ) (d : Direction) (n : PartyNumber) (x y v : Bool) → any (has_leg l) es ≡ x → any (has_reference r) es ≡ y → w ≡ v →
       Decided (Open r l d n) (decide_open x y v (opening r l d n))
@@ -162,12 +167,12 @@ module _ (opt : Options) (z : ℤ) (w : Bool) (es : List Entry) where
   facility_is r c None e = refuses _
   facility_is r c (Some p) e = service_is r c p (find_mem (has_party_reference r) (calls es) e).0 (served_is opt z (calls es) p (reading c))
 
-  alerting_is : (l : ℕ) (t : Connection) → Decided (Answer l) (decide_alerting opt l t)
+  alerting_is : (l : ℕ) (t : Connection) → Decided (Answer l) (decide_alerting (rule_set opt) l t)
   alerting_is l (WithUser c) = refuses _
   alerting_is l (WithPartner p true) = ends_alerting
   alerting_is l (WithPartner p false) = refuses _
 
-  answer_is : (l : ℕ) (o : Option Entry) → Decided (Answer l) (decide_answer opt l o)
+  answer_is : (l : ℕ) (o : Option Entry) → Decided (Answer l) (decide_answer (rule_set opt) l o)
   answer_is l None = refuses _
   answer_is l (Some e) = alerting_is l e.connection
 

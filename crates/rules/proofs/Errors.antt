@@ -1,6 +1,6 @@
 -- Errors and refusals leave the board as it was.
 use Prim.Native.Nat.{ℕ}
-use mathlib.Core.Path.{◌≡◌, refl}
+use mathlib.Core.Path.{◌≡◌, refl, ◌∙◌}
 use mathlib.Core.Bool.{Bool, false, true, cond}
 use mathlib.Core.List.{◌++◌, ◌∷◌, List, []}
 use lib.Dec.{eqb, ltb}
@@ -22,26 +22,35 @@ use Rattle.component.specs.Answers.{answer_octets, filled}
 use Rattle.rules.specs.Checks.{Decision, Refuse, Accept, returned_by}
 use Rattle.events.specs.Refusals.{refusal_number}
 use Rattle.rules.specs.History.{Event, stepped}
-use Rattle.rules.specs.Replies.{told, TellNumber, error_record, Drop, number_at, octets, error_tag, Reply, ReplyRecord, error_octets, Tell, Gone, PassOn, transfer_replies, release_replies}
+use Rattle.rules.specs.Replies.{told, TellNumber, error_record, Drop, number_at, octets, error_tag, Reply, ReplyRecord, error_octets, Tell, Gone, PassOn, transfer_replies, release_replies, answer_told}
 use Rattle.rules.proofs.Decided.{Decided, refuses, changes_nothing, opens_leg_lem, sets_state, sets_auxiliary, releases, assigns_link_id, transfers, ends_alerting, decided}
 use Rattle.rules.specs.Step.{board_after, rows_after, candidate_after, done, replies, refused, step, step_tested, Outcome, decision}
 use Rattle.octets.proofs.Lists.{true_not_false, neither, or_left}
+use Rattle.board.specs.declared.RuleSet.{RuleSet}
+use Rattle.board.specs.declared.RuleSet.TheVariants.{European, American}
+use Rattle.board.specs.RuleSets.{rule_set}
+use Rattle.std.proofs.lemmas.List.Folds.{list_any-append}
 use Rattle.octets.specs.Lists.{any}
 use Rattle.events.specs.declared.Refusal.TheVariants as refusal
 
 -- ---- errors
 
-told_well : (l : ℕ) (a b : Bool) (n : TellNumber) → error_record (told l a b n) ≡ false
-told_well l true true n = refl
-told_well l true false n = refl
-told_well l false true n = refl
-told_well l false false n = refl
+told_well : (r : RuleSet) (l : ℕ) (a b : Bool) (n : TellNumber) → any error_record (told r l a b n) ≡ false
+told_well European l true b n = refl
+told_well American l true b n = refl
+told_well r l false true n = refl
+told_well r l false false n = refl
 
-transfer_well : (o : Options) (r : ℕ) (i : IntegerOctets) (p q : Party) (numbers : ℕ → TellNumber) → any error_record (transfer_replies o r i p q numbers) ≡ false
+transfer_well : (rules : RuleSet) (r : ℕ) (i : IntegerOctets) (p q : Party) (numbers : ℕ → TellNumber) → any error_record (transfer_replies rules r i p q numbers) ≡ false
 unfolding answer_octets
-transfer_well o r i p q numbers =
-    neither (told_well p.leg (delivered p.call) (delivered q.call) (numbers q.leg))
-    (neither (told_well q.leg (delivered q.call) (delivered p.call) (numbers p.leg)) refl)
+transfer_well rules r i p q numbers =
+    list_any-append error_record (told rules p.leg (delivered p.call) (delivered q.call) (numbers q.leg)) _
+    ∙ neither (told_well rules p.leg (delivered p.call) (delivered q.call) (numbers q.leg))
+    (told_well rules q.leg (delivered q.call) (delivered p.call) (numbers p.leg))
+
+answer_well : (r : RuleSet) (l p : ℕ) (numbers : ℕ → TellNumber) → any error_record (answer_told r l p numbers) ≡ false
+answer_well European l p numbers = refl
+answer_well American l p numbers = refl
 
 release_well : (t : Connection) (numbers : ℕ → TellNumber) → any error_record (release_replies t numbers) ≡ false
 release_well (WithUser c) numbers = refl
@@ -58,8 +67,8 @@ well_by b (sets_state e k) h = absurd (true_not_false h refl)
 well_by b (sets_auxiliary e k) h = absurd (true_not_false h refl)
 well_by b (releases {e = e} m k) h = absurd (true_not_false h (release_well e.connection (number_at b.rows)))
 well_by b (assigns_link_id i m e k) h = absurd (true_not_false h refl)
-well_by b {opt} (transfers {p = p} {o = q} i m n k) h = absurd (true_not_false h (transfer_well opt p.call.reference.0 i p q (number_at b.rows)))
-well_by b ends_alerting h = absurd (true_not_false h refl)
+well_by b {opt} (transfers {p = p} {o = q} i m n k) h = absurd (true_not_false h (transfer_well (rule_set opt) p.call.reference.0 i p q (number_at b.rows)))
+well_by b {opt} (ends_alerting {l = l} {p = p}) h = absurd (true_not_false h (answer_well (rule_set opt) l p (number_at b.rows)))
 
 well_done : (b : Board) (os : List ℕ) → any error_record (replies b.rows (decision b os)) ≡ true → board_after (decision b os) b ≡ b
 unfolding decision

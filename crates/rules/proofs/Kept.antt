@@ -33,7 +33,9 @@ use Rattle.rules.proofs.Order.{calls_one}
 use Rattle.rules.specs.Book.{map_connection, change_call, end_alerting, join_legs, entries_after}
 use Rattle.rules.specs.Checks.{opened, named, may_progress, decide, Decision, Apply, release_of, change_of}
 use Rattle.events.specs.EventRecords.{Request, in_range}
-use Rattle.rules.specs.Pairing.{verdict, calls_pair, held_with_idle}
+use Rattle.board.specs.declared.RuleSet.{RuleSet}
+use Rattle.board.specs.RuleSets.{rule_set, alerting_allowed}
+use Rattle.rules.specs.Pairing.{verdict, calls_pair, auxiliaries_pair}
 use Rattle.rules.specs.Serving.{same_call, partner_for}
 use Rattle.rules.specs.LinkIdGiven.{upward, FirstNotLive}
 use Rattle.octets.proofs.Lists.{filter_map_mem, mem_filter_map, any_has, right, all_at, true_not_false, eqb_eq, left, is_not, both, any_of, eqb_self, none_by, or_right, all_by, any_map, any_ext, distinct_map, all_map, all_ext}
@@ -558,15 +560,19 @@ no_verdict h false true dc dd oc od x y = absurd (true_not_false refl y)
 no_verdict true false false dc dd oc od x y = refl
 no_verdict false false false dc dd oc od x y = refl
 
+-- "never both Delivered", by either rule set
+pub both_delivered : (r : RuleSet) (c d : Call) → (delivered c && delivered d) ≡ true → verdict r c d ≡ 0
+both_delivered r c d t =
+    no_verdict (auxiliaries_pair r c d) (active c) (active d) (delivered c) (delivered d) (outgoing c) (outgoing d)
+    (ringing c.state (left (delivered c) (delivered d) t)) (ringing d.state (right (delivered c) (delivered d) t))
+
 -- two calls that pair are not both Delivered
 pub not_both_ring : (opt : Options) (c d : Call) → calls_pair opt c d ≡ true → (delivered c && delivered d) ≡ false
 unfolding calls_pair
 not_both_ring opt c d h = go (test (delivered c && delivered d))
   where
     go : ((delivered c && delivered d) ≡ true) ⊎ ((delivered c && delivered d) ≡ false) → (delivered c && delivered d) ≡ false
-    go (inl t) =
-        let None : verdict c d ≡ 0 = no_verdict (held_with_idle c d) (active c) (active d) (delivered c) (delivered d) (outgoing c) (outgoing d) (ringing c.state (left (delivered c) (delivered d) t)) (ringing d.state (right (delivered c) (delivered d) t)) in
-        absurd (true_not_false h (ap (λ (v : ℕ). eqb v 1 || (eqb v 2 && eqb opt.alerting 1)) None))
+    go (inl t) = absurd (true_not_false h (ap (λ (v : ℕ). eqb v 1 || (eqb v 2 && alerting_allowed opt)) (both_delivered (rule_set opt) c d t)))
     go (inr t) = t
 
 -- two calls of different references have different legs

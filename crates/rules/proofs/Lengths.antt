@@ -1,13 +1,15 @@
 -- How many octets the records of an event have.
 use Prim.Native.Nat.{◌+◌, ◌-◌, ◌≤◌, ℕ, zero-le}
 use native.Mathlib.Omega.{arith}
-use mathlib.Core.Path.{◌≡◌, refl}
+use mathlib.Core.Path.{◌≡◌, refl, ap, sym, ◌∙◌}
 use mathlib.Core.Bool.{◌&&◌, true, false, Bool}
-use mathlib.Core.List.{◌++◌, ◌∷◌, List, []}
+use mathlib.Core.List.{◌++◌, ◌∷◌, List, [], append_assoc}
 use lib.Dec.{eqb, leb}
 use lib.ListN.{length, take, length-take, length-append, replicate, length-replicate}
 use Rattle.octets.proofs.Lists.{eqb_eq, left}
 use Rattle.octets.specs.Lists.{all}
+use Rattle.board.specs.declared.RuleSet.{RuleSet}
+use Rattle.board.specs.declared.RuleSet.TheVariants.{European, American}
 use Rattle.board.specs.Soundness.{valid_digits}
 use Rattle.component.proofs.Length.{answer_length}
 use Rattle.events.specs.EventRecords.{LegFacility, in_range, valid_component}
@@ -16,7 +18,7 @@ use Rattle.private_transfers.specs.declared.Indication.TheVariants.{Alerting, Ac
 use Rattle.private_transfers.specs.EctInform.{Number, NotSent, Restricted, Given, EctInform}
 use Rattle.component.specs.Answers.{answer_octets}
 use Rattle.component.specs.declared.Answer.{Answer}
-use Rattle.rules.specs.Replies.{record_octets, Reply, Tell, PassOn, TellNumber, told, ReplyRecord, octets, drops, Written, nothing, replied, passed_on_record, number_as_received, inform_record, inform_told}
+use Rattle.rules.specs.Replies.{facility, notify, transferred_active, transferred_alerting, mark_only, record_octets, Reply, Tell, PassOn, TellNumber, told, ReplyRecord, octets, drops, Written, nothing, replied, passed_on_record, number_as_received, inform_record, inform_told}
 
 pub reply_length : (r : ℕ) (a : Answer) → length (record_octets (Reply r a)) ≡ 36
 reply_length r a =
@@ -24,11 +26,6 @@ reply_length r a =
     let w = length-replicate {A = ℕ} (32 - length (answer_octets a)) 0 in
     let h = answer_length a in
     omega arith
-
-told_length : (l : ℕ) (a b : Bool) (n : TellNumber) → length n.digits ≡ 15 → length (record_octets (told l a b n)) ≡ 25
-told_length l false false n h = omega arith
-told_length l false true n h = refl
-told_length l true b n h = omega arith
 
 pub one_length : (r : ReplyRecord) → length (octets (r ∷ [])) ≡ length (record_octets r)
 unfolding octets
@@ -38,13 +35,25 @@ drops_length : (a b : ℕ) (rest : List ReplyRecord) → length (octets (drops a
 unfolding octets
 drops_length a b rest = omega arith
 
-pub tells_length : (l m : ℕ) (a b : Bool) (n k : TellNumber) → length n.digits ≡ 15 → length k.digits ≡ 15 → length (octets (told l a b n ∷ told m b a k ∷ [])) ≡ 50
+pub both_octets : (xs ys : List ReplyRecord) → octets (xs ++ ys) ≡ octets xs ++ octets ys
 unfolding octets
-tells_length l m a b n k h j =
-    let e = length-append (record_octets (told l a b n)) (octets (told m b a k ∷ [])) in
-    omega (arith, told_length l a b n h, told_length m b a k j, one_length (told m b a k))
+both_octets [] ys = refl
+both_octets (x ∷ xs) ys = ap (λ (os : List ℕ). record_octets x ++ os) (both_octets xs ys) ∙ sym (append_assoc (record_octets x) (octets xs) (octets ys))
 
-pub transfer_length : (r : ℕ) (x : Answer) (a b : ℕ) (rest : List ReplyRecord) → length (octets rest) ≡ 50 → length (octets (Reply r x ∷ (drops a b ++ rest))) ≡ 92
+told_length : (r : RuleSet) (l : ℕ) (a b : Bool) (n : TellNumber) → length n.digits ≡ 15 → length (octets (told r l a b n)) ≤ 25
+unfolding octets
+told_length r l false false n h = omega (arith, h, one_length (Tell l facility transferred_active n 1))
+told_length r l false true n h = omega (arith, one_length (Tell l facility transferred_alerting (mark_only 0) 1))
+told_length European l true b n h = omega (arith, h, one_length (Tell l notify transferred_active n 0))
+told_length American l true b n h = zero-le
+
+pub tells_length : (r : RuleSet) (l m : ℕ) (a b : Bool) (n k : TellNumber) → length n.digits ≡ 15 → length k.digits ≡ 15 → length (octets (told r l a b n ++ told r m b a k)) ≤ 50
+tells_length r l m a b n k h j =
+    let e = both_octets (told r l a b n) (told r m b a k) in
+    let f = length-append (octets (told r l a b n)) (octets (told r m b a k)) in
+    omega (arith, ap length e, f, told_length r l a b n h, told_length r m b a k j)
+
+pub transfer_length : (r : ℕ) (x : Answer) (a b : ℕ) (rest : List ReplyRecord) → length (octets rest) ≤ 50 → length (octets (Reply r x ∷ (drops a b ++ rest))) ≤ 92
 unfolding octets
 transfer_length r x a b rest h =
     let e = length-append (record_octets (Reply r x)) (octets (drops a b ++ rest)) in

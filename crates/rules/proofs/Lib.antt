@@ -14,6 +14,7 @@ pub mod SoundKept
 pub mod WholeHistory
 pub mod Room
 pub mod Situations
+pub mod AmericanSituations
 pub mod SingleEvents
 pub mod PassedOn
 pub mod Informed

@@ -23,7 +23,8 @@ use Rattle.component.specs.declared.Reading.{Reading}
 use Rattle.component.specs.declared.Reading.TheVariants.{Ignored, Rejected, Invoked}
 use Rattle.rules.specs.Checks.{named, decide, entry_at, decide_facility, service_decision, decide_open, opening, decide_progress, decide_hold, decide_release, decide_answer, decide_leg_facility, decide_inform}
 use Rattle.events.specs.EventRecords.{Request, Facility, Malformed, Open, Progress, Hold, Release, Answer, LegFacility, Inform}
-use Rattle.rules.specs.Serving.{link_id_request, new_link_id, perform, execute, partner_for, execute_explicitly, serve, if_subscribed}
+use Rattle.board.specs.RuleSets.{rule_set}
+use Rattle.rules.specs.Serving.{link_id_request, new_link_id, perform, execute, partner_for, execute_explicitly, serve, Service, if_subscribed, if_served}
 use Rattle.octets.proofs.Lists.{filter_filter_map_le, Perm, length_perm, filter_map_perm, any_perm, only_perm, filter_perm, find_perm}
 use Rattle.octets.specs.Lists.{filter, any}
 use Rattle.octets.specs.Numbers.{same_integer, next_link_id}
@@ -70,7 +71,7 @@ serve_perm : {l m : List Entry} → Sound l → Perm l m → (opt : Options) (z 
 unfolding serve
 serve_perm v h opt z p Ignored = refl
 serve_perm v h opt z p (Rejected i) = refl
-serve_perm v h opt z p (Invoked i o) = ap (if_subscribed opt i) (perform_perm v h opt z p i o)
+serve_perm v h opt z p (Invoked i o) = ap (λ (s : Service). if_served (rule_set opt) o i (if_subscribed opt i s)) (perform_perm v h opt z p i o)
 
 named_perm : {l m : List Entry} → Sound l → Perm l m → (r : ℕ) → named r l ≡ named r m
 named_perm v h r = find_perm (has_party_reference r) (filter_map_perm (λ (e : Entry). party_of e.leg e.connection) h) (calls_one r v)
@@ -91,6 +92,6 @@ decide_perm v h opt z full (Progress r t) = ap (decide_progress r t) (named_perm
 decide_perm v h opt z full (Hold r x) = ap (decide_hold r x) (named_perm v h r)
 decide_perm v h opt z full (Release l) = ap decide_release (entry_perm v h l)
 decide_perm {l = es} {m = fs} v h opt z full (Facility r c) = service_perm v h opt z c (named r es) ∙ ap (decide_facility opt z fs c) (named_perm v h r)
-decide_perm v h opt z full (Answer l) = ap (decide_answer opt l) (entry_perm v h l)
+decide_perm v h opt z full (Answer l) = ap (decide_answer (rule_set opt) l) (entry_perm v h l)
 decide_perm v h opt z full (LegFacility l n c) = ap (decide_leg_facility n c) (entry_perm v h l)
 decide_perm v h opt z full (Inform r c) = ap (decide_inform c) (named_perm v h r)

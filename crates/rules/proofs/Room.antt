@@ -4,16 +4,19 @@ use Prim.Native.Nat.{◌≤◌, ℕ, zero-le}
 use native.Mathlib.Omega.{arith}
 use mathlib.Core.Path.{◌≡◌, refl}
 use mathlib.Core.Bool.{◌&&◌, true, false, Bool, cond}
-use mathlib.Core.List.{List}
+use mathlib.Core.List.{List, [], ◌∷◌}
 use lib.Dec.{eqb, leb, ltb}
 use lib.IntN.{ℤ}
-use lib.ListN.{length}
+use lib.ListN.{length, length-append}
 use Rattle.board.specs.declared.PartyNumber.{PartyNumber}
 use Rattle.board.specs.declared.Connection.{Connection}
 use Rattle.board.specs.declared.Connection.TheVariants.{WithUser, WithPartner}
 use Rattle.board.specs.declared.Entry.{Entry}
 use Rattle.board.specs.declared.Options.{Options}
 use Rattle.board.specs.declared.Party.{Party}
+use Rattle.board.specs.declared.RuleSet.{RuleSet}
+use Rattle.board.specs.declared.RuleSet.TheVariants.{European, American}
+use Rattle.board.specs.RuleSets.{rule_set}
 use Rattle.board.specs.Changes.{full}
 use Rattle.board.specs.Entries.{occupied, taken}
 use Rattle.board.specs.Soundness.{valid_digits, valid_standing, valid_row, sound, sound_rows, valid_options}
@@ -26,11 +29,11 @@ use Rattle.component.specs.declared.Answer.TheVariants as answer
 use Rattle.octets.specs.declared.IntegerOctets.{IntegerOctets}
 use Rattle.rules.proofs.Decided.{Decided, refuses, changes_nothing, opens_leg_lem, sets_state, sets_auxiliary, releases, assigns_link_id, transfers, ends_alerting, decided}
 use Rattle.rules.proofs.Agreement.{request_in}
-use Rattle.rules.proofs.Lengths.{Short, fifteen, nothing_short, reply_short, tell_short, tells_length, transfer_length}
+use Rattle.rules.proofs.Lengths.{Short, fifteen, nothing_short, reply_short, one_length, tell_short, tells_length, transfer_length}
 use Rattle.rules.specs.Checks.{Decision, written_by}
 use Rattle.events.specs.Refusals.{refusal_number}
 use Rattle.events.specs.EventRecords.{Request, request, in_range}
-use Rattle.rules.specs.Replies.{number_at, TellNumber, mark_only, number_of_row, octets, tells, facility, transferred_active, transfer_replies, release_replies, answer_told}
+use Rattle.rules.specs.Replies.{number_at, TellNumber, Tell, record_octets, mark_only, number_of_row, octets, tells, facility, transferred_active, transfer_replies, release_replies, answer_told}
 use Rattle.rules.specs.Step.{replies, step, step_tested, Outcome, refused, done, decision}
 use Rattle.octets.proofs.Lists.{left, true_not_false, right, find_mem, all_at}
 use Rattle.octets.specs.Lists.{all, find}
@@ -66,11 +69,11 @@ number_length rows k l = go (find at_leg rows) refl
 
 -- ---- what an event writes
 
-transfer_short : (o : Options) (r : ℕ) (i : IntegerOctets) (p q : Party) → Short (transfer_replies o r i p q)
-transfer_short o r i p q = record {
+transfer_short : (rules : RuleSet) (r : ℕ) (i : IntegerOctets) (p q : Party) → Short (transfer_replies rules r i p q)
+transfer_short rules r i p q = record {
   fits = λ numbers k.
-      let w = tells_length p.leg q.leg (delivered p.call) (delivered q.call) (numbers q.leg) (numbers p.leg) (k q.leg) (k p.leg) in
-      let e = transfer_length r (answer.Result i) p.call.reference.0 q.call.reference.0 (tells o numbers p q) w in
+      let w = tells_length rules p.leg q.leg (delivered p.call) (delivered q.call) (numbers q.leg) (numbers p.leg) (k q.leg) (k p.leg) in
+      let e = transfer_length r (answer.Result i) p.call.reference.0 q.call.reference.0 (tells rules numbers p q) w in
       omega arith;
 }
 
@@ -79,8 +82,14 @@ unfolding octets
 release_short (WithUser c) = record { fits = λ numbers k. omega arith }
 release_short (WithPartner p a) = record { fits = λ numbers k. omega arith }
 
-answer_short : (o : Options) (l p : ℕ) → Short (answer_told o l p)
-answer_short o l p = tell_short p facility transferred_active (λ (numbers : ℕ → TellNumber). numbers l) 0 (λ numbers k. k l)
+answer_short : (r : RuleSet) (l p : ℕ) → Short (answer_told r l p)
+unfolding octets
+answer_short European l p = tell_short p facility transferred_active (λ (numbers : ℕ → TellNumber). numbers l) 0 (λ numbers k. k l)
+answer_short American l p = record {
+  fits = λ numbers k.
+      let e = length-append (record_octets (Tell p facility transferred_active (numbers l) 0)) (octets (Tell l facility transferred_active (numbers p) 0 ∷ [])) in
+      omega (arith, k l, k p, one_length (Tell l facility transferred_active (numbers p) 0));
+}
 
 short_by : {opt : Options} {z : ℤ} {w : Bool} {es : List Entry} {q : Request} {d : Decision} → in_range q ≡ true → Decided opt z w es q d → Short (written_by d)
 short_by k (refuses c) = nothing_short
@@ -90,8 +99,8 @@ short_by k (sets_state e h) = nothing_short
 short_by k (sets_auxiliary e h) = nothing_short
 short_by k (releases {e = e} m h) = release_short e.connection
 short_by k (assigns_link_id {p = p} {y = y} i m e h) = reply_short p.call.reference.0 (answer.LinkIdResult i (record { 0 = y }))
-short_by {opt} k (transfers {p = p} {o = q} i m n h) = transfer_short opt p.call.reference.0 i p q
-short_by {opt} k (ends_alerting {l = l} {p = p}) = answer_short opt l p
+short_by {opt} k (transfers {p = p} {o = q} i m n h) = transfer_short (rule_set opt) p.call.reference.0 i p q
+short_by {opt} k (ends_alerting {l = l} {p = p}) = answer_short (rule_set opt) l p
 
 -- whatever the board, the event and the buffer, what is written fits
 pub room_enough : (b : Board) (os : List ℕ) (room : ℕ) → length (octets (step b os room).replies) ≤ 92

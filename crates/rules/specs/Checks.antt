@@ -18,6 +18,8 @@ use Rattle.board.specs.declared.PartyNumber.{PartyNumber}
 use Rattle.board.specs.declared.Options.{Options}
 use Rattle.board.specs.declared.Change.{Change}
 use Rattle.board.specs.declared.Change.TheVariants as change
+use Rattle.board.specs.declared.RuleSet.{RuleSet}
+use Rattle.board.specs.RuleSets.{rule_set}
 use Rattle.board.specs.States.{active, holdable}
 use Rattle.board.specs.declared.Connection.{Connection}
 use Rattle.board.specs.declared.Connection.TheVariants.{WithUser, WithPartner}
@@ -157,14 +159,14 @@ decide_release None = Refuse refusal.NoSuchLeg
 decide_release (Some e) = accept (release_of e.leg e.connection) (release_replies e.connection)
 
 -- "Answer: a joined, alerting leg stops alerting."
-abbrev pub decide_alerting : Options → ℕ → Connection → Decision
-decide_alerting o l (WithUser c) = Refuse refusal.NotPermitted
-decide_alerting o l (WithPartner p true) = accept (change.EndAlerting l) (answer_told o l p)
-decide_alerting o l (WithPartner p false) = Refuse refusal.NotPermitted
+abbrev pub decide_alerting : RuleSet → ℕ → Connection → Decision
+decide_alerting rules l (WithUser c) = Refuse refusal.NotPermitted
+decide_alerting rules l (WithPartner p true) = accept (change.EndAlerting l) (answer_told rules l p)
+decide_alerting rules l (WithPartner p false) = Refuse refusal.NotPermitted
 
-abbrev pub decide_answer : Options → ℕ → Option Entry → Decision
-decide_answer o l None = Refuse refusal.NoSuchLeg
-decide_answer o l (Some e) = decide_alerting o l e.connection
+abbrev pub decide_answer : RuleSet → ℕ → Option Entry → Decision
+decide_answer rules l None = Refuse refusal.NoSuchLeg
+decide_answer rules l (Some e) = decide_alerting rules l e.connection
 
 -- what the component of the named party comes to: nothing or an answer alone, a new LinkId for its call, or a transfer;
 -- "A LinkId lives until its call is released or transferred."
@@ -173,7 +175,8 @@ service_decision o p Silent = Accept None nothing
 service_decision o p (Respond a) = Accept None (replied p.call.reference.0 a)
 service_decision o p (AssignLinkId l i) =
     accept (change.SetLinkId p.call.reference l) (replied p.call.reference.0 (answer.LinkIdResult i l))
-service_decision o p (Transfer x y i) = accept (change.Join x.leg y.leg) (transfer_replies o p.call.reference.0 i x y)
+service_decision o p (Transfer x y i) =
+    accept (change.Join x.leg y.leg) (transfer_replies (rule_set o) p.call.reference.0 i x y)
 
 abbrev pub decide_facility : Options → ℤ → List Entry → List ℕ → Option Party → Decision
 decide_facility o z es c None = Refuse refusal.NoSuchCall
@@ -217,6 +220,6 @@ decide o z full es (Progress r s) = decide_progress r s (named r es)
 decide o z full es (Hold r a) = decide_hold r a (named r es)
 decide o z full es (Release l) = decide_release (entry_at l es)
 decide o z full es (Facility r c) = decide_facility o z es c (named r es)
-decide o z full es (Answer l) = decide_answer o l (entry_at l es)
+decide o z full es (Answer l) = decide_answer (rule_set o) l (entry_at l es)
 decide o z full es (LegFacility l n c) = decide_leg_facility n c (entry_at l es)
 decide o z full es (Inform r c) = decide_inform c (named r es)

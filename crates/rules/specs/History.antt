@@ -198,7 +198,7 @@ pub record WholeHistory (b : Board) (k : Book) (list : List Event) : Type 0 wher
   -- the board is sound, so 2 is returned nowhere
   pub sound_board : T (sound (board_at b list))
 
--- on the empty board of any options that are each 0 or 1
+-- on the empty board of any options that are in range
 abbrev pub Demand3Of : Options → Type 0
 Demand3Of o = T (valid_options o) → (list : List Event) → WholeHistory (empty_board o) (empty_book o) list
 

@@ -7,6 +7,7 @@ pub mod Step
 pub mod Book
 pub mod History
 pub mod Situations
+pub mod AmericanSituations
 pub mod Examples
 pub mod SingleEvents
 pub mod PassedOn

@@ -9,8 +9,9 @@ use Rattle.component.specs.declared.Answer.{Answer}
 use Rattle.component.specs.declared.Answer.TheVariants as answer
 use Rattle.component.specs.Answers.{answer_octets, filled}
 use Rattle.board.specs.declared.PartyNumber.{PartyNumber}
-use Rattle.board.specs.declared.Options.{Options}
 use Rattle.board.specs.declared.Row.{Row}
+use Rattle.board.specs.declared.RuleSet.{RuleSet}
+use Rattle.board.specs.declared.RuleSet.TheVariants.{European, American}
 use Rattle.board.specs.States.{delivered}
 use Rattle.board.specs.declared.Connection.{Connection}
 use Rattle.board.specs.declared.Connection.TheVariants.{WithUser, WithPartner}
@@ -90,21 +91,26 @@ transferred_alerting = 0xE9
 abbrev pub transferred_active : ℕ
 transferred_active = 0xEA
 
+-- "the alerting one NOTIFY, EA, the other's number, request 0"; by American rules "An alerting party gets no Tell until
+-- it answers" (document 02, slip 7)
+abbrev pub alerting_party_told : RuleSet → ℕ → TellNumber → List ReplyRecord
+alerting_party_told European l n = Tell l notify transferred_active n 0 ∷ []
+alerting_party_told American l n = []
+
 -- a leg, whether it alerts itself, whether the other does, and the other's number:
 -- "Both Active: each is told FACILITY, EA, the other's number, request 1. One alerting: the Active one FACILITY, E9,
--- mark 0, request 1; the alerting one NOTIFY, EA, the other's number, request 0." Two calls that pair are never both
--- Delivered.
-abbrev pub told : ℕ → Bool → Bool → TellNumber → ReplyRecord
-told l false false n = Tell l facility transferred_active n 1
-told l false true n = Tell l facility transferred_alerting (mark_only 0) 1
-told l true other n = Tell l notify transferred_active n 0
+-- mark 0, request 1". Two calls that pair are never both Delivered.
+abbrev pub told : RuleSet → ℕ → Bool → Bool → TellNumber → List ReplyRecord
+told rules l false false n = Tell l facility transferred_active n 1 ∷ []
+told rules l false true n = Tell l facility transferred_alerting (mark_only 0) 1 ∷ []
+told rules l true other n = alerting_party_told rules l n
 
--- "then two Tells, the named call's party first", each with the other's number; the options make no difference
-abbrev pub tells : Options → (ℕ → TellNumber) → Party → Party → List ReplyRecord
-tells o numbers p q =
-    told p.leg (delivered p.call) (delivered q.call) (numbers q.leg)
-    ∷ told q.leg (delivered q.call) (delivered p.call) (numbers p.leg)
-    ∷ []
+-- "then two Tells, the named call's party first", each with the other's number; by American rules none to
+-- a leg that alerts
+abbrev pub tells : RuleSet → (ℕ → TellNumber) → Party → Party → List ReplyRecord
+tells rules numbers p q =
+    told rules p.leg (delivered p.call) (delivered q.call) (numbers q.leg)
+    ++ told rules q.leg (delivered q.call) (delivered p.call) (numbers p.leg)
 
 -- "The named call's Drop comes first, the other second." (document 02, slip 3)
 abbrev pub drops : ℕ → ℕ → List ReplyRecord
@@ -131,18 +137,25 @@ abbrev pub replied : ℕ → Answer → Written
 replied r a numbers = Reply r a ∷ []
 
 -- "A transfer writes Reply (A2, identifier only) on the named reference, two Drops .., then two Tells"
-abbrev pub transfer_replies : Options → ℕ → IntegerOctets → Party → Party → Written
-transfer_replies o r i p q numbers =
-    Reply r (answer.Result i) ∷ (drops p.call.reference.0 q.call.reference.0 ++ tells o numbers p q)
+abbrev pub transfer_replies : RuleSet → ℕ → IntegerOctets → Party → Party → Written
+transfer_replies rules r i p q numbers =
+    Reply r (answer.Result i) ∷ (drops p.call.reference.0 q.call.reference.0 ++ tells rules numbers p q)
 
 -- "Release of a served call writes one Drop; of a joined leg, one Gone for the partner."
 abbrev pub release_replies : Connection → Written
 release_replies (WithUser c) numbers = Drop c.reference.0 ∷ []
 release_replies (WithPartner p a) numbers = Gone p ∷ []
 
--- "Answer tells the partner FACILITY, EA, the answering number, request 0 (H)."; the options make no difference
-abbrev pub answer_told : Options → ℕ → ℕ → Written
-answer_told o l partner numbers = Tell partner facility transferred_active (numbers l) 0 ∷ []
+-- by American rules, what the leg that answers is told: "then its partner and, after that, itself are told FACILITY,
+-- EA, with the other's number, request 0" (document 02, slip 7)
+abbrev pub answering_party_told : RuleSet → ℕ → TellNumber → List ReplyRecord
+answering_party_told European l n = []
+answering_party_told American l n = Tell l facility transferred_active n 0 ∷ []
+
+-- "Answer tells the partner FACILITY, EA, the answering number, request 0 (H)."
+abbrev pub answer_told : RuleSet → ℕ → ℕ → Written
+answer_told rules l partner numbers =
+    Tell partner facility transferred_active (numbers l) 0 ∷ answering_party_told rules l (numbers partner)
 
 -- "passed on unchanged to the partner .. as reply record 0x85 with .. the partner's leg" (document 02, slip 5)
 abbrev pub passed_on_record : ℕ → ℕ → List ℕ → Written

@@ -1,15 +1,19 @@
 -- Serving what a component asks for (document 01, "Serving it"), over a list of far parties with their calls:
 -- the board's for the board, the book's for the book.
-use Rattle.std.specs.Prelude.{ℕ, Bool, ◌&&◌, not, cond, List, eqb, leb, ℤ, length, None, Option, Some}
+use Rattle.std.specs.Prelude.{ℕ, Bool, true, false, ◌&&◌, not, cond, List, eqb, leb, ℤ, length, None, Option, Some}
 use Rattle.octets.specs.declared.IntegerOctets.{IntegerOctets}
 use Rattle.octets.specs.Lists.{filter, find, only}
 use Rattle.component.specs.declared.Operation.{Operation}
 use Rattle.component.specs.declared.Operation.TheVariants.{EctExecute, ExplicitEctExecute, EctLinkIdRequest}
+use Rattle.component.specs.declared.Reject.TheVariants.{Invoke}
 use Rattle.component.specs.declared.Reading.{Reading}
 use Rattle.component.specs.declared.Reading.TheVariants.{Ignored, Rejected, Invoked}
 use Rattle.component.specs.declared.Answer.TheVariants as answer
 use Rattle.board.specs.declared.Options.{Options}
 use Rattle.board.specs.declared.Party.{Party}
+use Rattle.board.specs.declared.RuleSet.{RuleSet}
+use Rattle.board.specs.declared.RuleSet.TheVariants.{European, American}
+use Rattle.board.specs.RuleSets.{rule_set}
 use Rattle.board.specs.Entries.{link_id_in, has_party_link_id}
 use Rattle.board.specs.LinkIds.{most_link_ids, free_link_id, live}
 -- what a component comes to
@@ -65,7 +69,19 @@ perform o candidate ps named i EctLinkIdRequest = link_id_request candidate (liv
 abbrev pub if_subscribed : Options → IntegerOctets → Service → Service
 if_subscribed o i s = cond (eqb o.subscribed 1) s (error i 0)
 
+-- "EctExecute is answered there by invoke problem 1, subscribed or not, since both calls must be named." (document 02,
+-- slip 7)
+abbrev pub is_served : RuleSet → Operation → Bool
+is_served European op = true
+is_served American EctExecute = false
+is_served American (ExplicitEctExecute l) = true
+is_served American EctLinkIdRequest = true
+
+abbrev pub if_served : RuleSet → Operation → IntegerOctets → Service → Service
+if_served r op i s = cond (is_served r op) s (Respond (answer.Rejected (Invoke i 1)))
+
 unfoldable pub serve : Options → ℤ → List Party → Party → Reading → Service
 serve o candidate ps named Ignored = Silent
 serve o candidate ps named (Rejected r) = Respond (answer.Rejected r)
-serve o candidate ps named (Invoked i op) = if_subscribed o i (perform o candidate ps named i op)
+serve o candidate ps named (Invoked i op) =
+    if_served (rule_set o) op i (if_subscribed o i (perform o candidate ps named i op))

@@ -9,6 +9,7 @@ use Rattle.board.specs.declared.CallState.{CallState}
 use Rattle.board.specs.declared.CallState.TheVariants.{CallDelivered, Active}
 use Rattle.board.specs.declared.AuxiliaryState.{AuxiliaryState}
 use Rattle.board.specs.declared.AuxiliaryState.TheVariants.{Idle, HoldRequest, CallHeld}
+use Rattle.board.specs.declared.RuleSet.TheVariants.{European}
 use Rattle.board.specs.declared.Call.{Call}
 use Rattle.board.specs.declared.Board.{Board}
 use Rattle.board.specs.Making.{fresh}
@@ -91,10 +92,10 @@ link_id_on r z = answered_by (Reply r (answer.LinkIdResult (One 5) (record { 0 =
 
 pub record Situations : Type 0 where
   -- "Active Held with Active Idle: 1." "Both Held: 0." "Active Held with Delivered Idle: 2." "Hold Request with Idle: 0."
-  pub active_held_with_active_idle : verdict (call Active CallHeld) (call Active Idle) ≡ 1
-  pub both_held : verdict (call Active CallHeld) (call Active CallHeld) ≡ 0
-  pub active_held_with_delivered_idle : verdict (call Active CallHeld) (call CallDelivered Idle) ≡ 2
-  pub hold_request_with_idle : verdict (call Active HoldRequest) (call Active Idle) ≡ 0
+  pub active_held_with_active_idle : verdict European (call Active CallHeld) (call Active Idle) ≡ 1
+  pub both_held : verdict European (call Active CallHeld) (call Active CallHeld) ≡ 0
+  pub active_held_with_delivered_idle : verdict European (call Active CallHeld) (call CallDelivered Idle) ≡ 2
+  pub hold_request_with_idle : verdict European (call Active HoldRequest) (call Active Idle) ≡ 0
   -- "LinkId octets: 127 is 02 01 7F, 128 is 02 02 00 80, -128 is 02 01 80, -129 is 02 02 FF 7F."
   pub link_127 : integer (fewest (pos 127)) ≡ 0x02 ∷ 0x01 ∷ 0x7F ∷ []
   pub link_128 : integer (fewest (pos 128)) ≡ 0x02 ∷ 0x02 ∷ 0x00 ∷ 0x80 ∷ []

@@ -3,15 +3,15 @@
 
 ghost use Rattle.std.specs.Prelude.{◌≡◌, length};
 ghost use Rattle.octets.specs.Lists.{only};
-ghost use Rattle.rules.specs.Serving.{error, new_link_id, link_id_request};
+ghost use Rattle.rules.specs.Serving.{error, new_link_id, link_id_request, is_served};
 ghost use Rattle.rules.specs.Serving.{execute as executed, execute_explicitly, serve as served};
 ghost use Rattle.serving.specs.Code.Parties.{parties_of, paired_on, linked_on, performed_on, free_in};
 ghost use Rattle.board.specs.LinkIds.{live};
 ghost use Rattle.board.specs.Entries.{link_id_in};
 
 use board::finding::free_link_id;
-use board::{Board, MOST_LINK_IDS, Party};
-use component::{Answer, Operation, Reading};
+use board::{Board, MOST_LINK_IDS, Party, RuleSet};
+use component::{Answer, Operation, Reading, Reject, UNRECOGNIZED_OPERATION};
 use octets::{IntegerOctets, LinkId};
 use pairing::{is_partner, only_partner};
 use parties::linked;
@@ -100,6 +100,16 @@ fn perform(board: &Board, named: Party, identifier: IntegerOctets, operation: Op
     }
 }
 
+// By American rules both calls must be named.
+fn is_served(rules: RuleSet, operation: Operation) -> bool
+    ensures { result ≡ is_served rules operation }
+{
+    !matches!(
+        (rules, operation),
+        (RuleSet::American, Operation::EctExecute)
+    )
+}
+
 // What the component of a Facility on the named call comes to.
 #[tactic(auto, unfolding(rules::specs::Serving::serve))]
 pub fn serve(board: &Board, named: Party, reading: Reading) -> Service
@@ -109,6 +119,12 @@ pub fn serve(board: &Board, named: Party, reading: Reading) -> Service
         Reading::Ignored => Service::Silent,
         Reading::Rejected(reject) => Service::Respond(Answer::Rejected(reject)),
         Reading::Invoked(identifier, operation) => {
+            if !is_served(board.options.rule_set(), operation) {
+                return Service::Respond(Answer::Rejected(Reject::Invoke(
+                    identifier,
+                    UNRECOGNIZED_OPERATION,
+                )));
+            }
             if board.options.subscribed == 1 {
                 return perform(board, named, identifier, operation);
             }

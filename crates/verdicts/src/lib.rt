@@ -1,4 +1,4 @@
-// The pair rule as a table, 32 call situations by 32.
+// The pair rule as tables, one for each rule set: 32 call situations by 32.
 #![tactic(auto)]
 
 ghost use Rattle.std.specs.Prelude.{◌≡◌};
@@ -6,10 +6,10 @@ ghost use Rattle.rules.specs.Pairing.{verdict};
 ghost use Rattle.verdicts.specs.Situations.{situation as situation_of};
 ghost use Rattle.verdicts.specs.Tables.{table_of, verdict_in};
 
-use board::Call;
-use table::VERDICTS;
+use board::{Call, RuleSet};
 
-mod table;
+mod american;
+mod european;
 
 // The number of a call's situation, 0 to 31. Each kind has its place, from 0, in the order of its declaration.
 pub fn situation(call: Call) -> usize
@@ -21,11 +21,14 @@ pub fn situation(call: Call) -> usize
     8 * state + 2 * auxiliary + direction
 }
 
-// The table. It is lent: a use of it by value would make a copy.
-pub fn pair_table() -> &'static [u8; 1024]
-    ensures { result.now ≡ table_of verdict }
+// The table of a rule set. It is lent: a use of it by value would make a copy.
+pub fn pair_table(rules: RuleSet) -> &'static [u8; 1024]
+    ensures { result.now ≡ table_of (verdict rules) }
 {
-    &VERDICTS
+    match rules {
+        RuleSet::European => &european::VERDICTS,
+        RuleSet::American => &american::VERDICTS,
+    }
 }
 
 // The entry of a table for two calls.

@@ -1,6 +1,7 @@
 //! The single steps from which logs are made.
 
 use crate::board::{Aux, CallState, LinkId, Reference, INCOMING, OUTGOING};
+use crate::combine::combine;
 use crate::component::Operation;
 use crate::informs::inform;
 use crate::legs::leg_facility;
@@ -10,13 +11,13 @@ use crate::script::Script;
 
 /// How often each step is taken, as weights.
 pub struct Style {
-    pub weights: [u32; 15],
+    pub weights: [u32; 16],
     pub opens_first: usize,
     pub length: (usize, usize),
 }
 
 /// The steps, in the order of the weights.
-const STEPS: [fn(&mut Script); 15] = [
+const STEPS: [fn(&mut Script); 16] = [
     open,
     progress,
     hold,
@@ -32,6 +33,7 @@ const STEPS: [fn(&mut Script); 15] = [
     clutter,
     leg_facility,
     inform,
+    combine,
 ];
 
 pub fn step(script: &mut Script, style: &Style) {

@@ -1,5 +1,7 @@
 //! The board: 64 rows, two options and the next LinkId candidate.
 
+use crate::rules::{RuleSet, HIGHEST};
+
 pub const ROWS: usize = 64;
 pub const MAX_LIVE: usize = 16;
 pub const OUTGOING: u8 = 0;
@@ -173,9 +175,13 @@ pub struct Counts {
 }
 
 impl Board {
+    pub fn rules(&self) -> RuleSet {
+        RuleSet::of(self.alerting)
+    }
+
     /// A fresh board, or 5 with an empty board and both options 0.
     pub fn fresh(subscribed: u8, alerting: u8) -> (u8, Board) {
-        let good = subscribed <= 1 && alerting <= 1;
+        let good = subscribed <= 1 && alerting <= HIGHEST;
         let board = Board {
             rows: [Row::EMPTY; ROWS],
             subscribed: if good { subscribed } else { 0 },

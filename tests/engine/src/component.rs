@@ -12,7 +12,7 @@ pub const MAX_DEPTH: u8 = 4;
 
 const NULL: &[u8] = &[0x05, 0x00];
 const GENERAL: u8 = 0x80;
-const INVOKE: u8 = 0x81;
+pub const INVOKE: u8 = 0x81;
 
 #[derive(Clone, Copy, PartialEq, Eq, Hash, Debug)]
 pub enum Operation {

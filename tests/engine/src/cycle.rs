@@ -14,8 +14,9 @@ const EDGES: [i16; 4] = [127, 128, -32768, -129];
 /// More than all values, so that the candidate comes round.
 const GIVEN: usize = 65_536 + 400;
 
-pub fn log(rng: &mut Rng) -> Vec<u8> {
-    let mut script = Script::new(rng, 1, 1);
+/// By European rules with the option 1, by American with 3.
+pub fn log(rng: &mut Rng, alerting: u8) -> Vec<u8> {
+    let mut script = Script::new(rng, 1, alerting);
     let mut given = 0;
     while given < GIVEN {
         given += round(&mut script);
@@ -64,22 +65,26 @@ fn transfer(script: &mut Script, named: Reference, (other, link): (Reference, Li
     script.ask(named, Operation::Explicit(link));
 }
 
-fn release(script: &mut Script, reference: Reference) {
+/// Releases a call, if it is there; gives what that returned.
+fn release(script: &mut Script, reference: Reference) -> u8 {
     let row = script.board.rows.iter().find(|row| row.call().is_some_and(|call| call.reference == reference));
-    if let Some(leg) = row.map(|row| row.leg) {
-        script.put(&records::release(leg));
-    }
+    row.map(|row| row.leg).map_or(0, |leg| script.put(&records::release(leg)))
 }
 
 /// Ends joined pairs and calls left over, so that the board stays small.
 fn sweep(script: &mut Script) {
     while let Some(leg) = script.pick_joined() {
-        script.put(&records::release(leg));
+        if script.put(&records::release(leg)) != 0 {
+            // Only on a board that a fault of the engine has left.
+            return;
+        }
     }
     let left = |script: &mut Script| {
         script.pick_call_with(|call| call.link.is_none_or(|link| !KEPT.contains(&link.0)))
     };
     while let Some(call) = left(script) {
-        release(script, call.reference);
+        if release(script, call.reference) != 0 {
+            return;
+        }
     }
 }

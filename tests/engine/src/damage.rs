@@ -78,12 +78,23 @@ fn shift(rng: &mut Rng, log: &mut Vec<u8>) {
 }
 
 fn bad_options(rng: &mut Rng, log: &mut Vec<u8>) {
-    match rng.below(4) {
-        0 => log[0] = rng.within(2, 255) as u8,
-        1 => log[1] = rng.within(2, 255) as u8,
-        2 => log.clear(),
+    match rng.below(6) {
+        0 => log[0] = bad_first(rng),
+        1 | 2 => (log[0], log[1]) = (rng.below(2) as u8, bad_second(rng)),
+        3 => (log[0], log[1]) = (bad_first(rng), bad_second(rng)),
+        4 => log.clear(),
         _ => log.truncate(rng.pick(&[1, 1, 2])),
     }
+}
+
+fn bad_first(rng: &mut Rng) -> u8 {
+    let any = rng.within(2, 255) as u8;
+    rng.pick(&[2, 2, 3, 255, any])
+}
+
+fn bad_second(rng: &mut Rng) -> u8 {
+    let any = rng.within(4, 255) as u8;
+    rng.pick(&[4, 4, 4, 5, 255, any])
 }
 
 /// Good options, then octets of any value, kinds likelier than others.

@@ -5,6 +5,7 @@ use crate::carried::{inform, pass_on};
 use crate::index::Index;
 use crate::lookup::{Lookup, Walk};
 use crate::reply::{Message, Replies, Told, ACTIVE, BUFFER};
+use crate::rules::RuleSet;
 use crate::serve::serve;
 
 pub const OPEN: u8 = 1;
@@ -254,10 +255,15 @@ fn release(board: &mut Board, index: &impl Lookup, leg: u32, replies: &mut Repli
 }
 
 fn answer(board: &mut Board, index: &impl Lookup, leg: u32, replies: &mut Replies) -> Result<(), u8> {
+    let rules = board.rules();
     let place = index.leg(&board.rows, leg).ok_or(10)?;
     let row = &mut board.rows[place];
     let Standing::Joined { partner, alerts: true } = row.standing else { return Err(11) };
     row.standing = Standing::Joined { partner, alerts: false };
     replies.tell(partner, Message::Facility, ACTIVE, 0, Told::of(row));
+    if rules == RuleSet::American {
+        let other = index.leg(&board.rows, partner).ok_or(10)?;
+        replies.tell(leg, Message::Facility, ACTIVE, 0, Told::of(&board.rows[other]));
+    }
     Ok(())
 }

@@ -15,12 +15,14 @@ pub mod pair_table;
 pub mod play;
 pub mod reply;
 pub mod rows;
+pub mod rules;
 pub mod serve;
 pub mod subaddress;
 
 // Making logs.
 pub mod actions;
 pub mod carrier;
+pub mod combine;
 pub mod cycle;
 pub mod damage;
 pub mod informs;
@@ -35,7 +37,10 @@ pub mod rng;
 pub mod script;
 
 // Tallying what occurs in them.
+pub mod american;
 pub mod notice;
+pub mod notice_american;
+pub mod notice_answer;
 pub mod notice_carrier;
 pub mod notice_component;
 pub mod notice_inform;
@@ -51,11 +56,14 @@ pub mod notice_pair;
 pub mod notice_pass;
 pub mod notice_refused;
 pub mod notice_transfer;
+pub mod notice_verdict;
 pub mod places;
 pub mod seen;
 pub mod seen_carrier;
 pub mod seen_inform;
 pub mod seen_leg;
+pub mod seen_rules;
+pub mod seen_verdict;
 pub mod tally;
 
 // Playing them through another program.

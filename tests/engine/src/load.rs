@@ -10,7 +10,7 @@ use crate::script::Script;
 /// Like an attendant's day, without wrong events; Opens, Releases and most transfers are
 /// added by the load.
 const BUSY: Style =
-    Style { weights: [0, 16, 24, 0, 6, 10, 4, 4, 0, 0, 0, 0, 0, 0, 0], opens_first: 0, length: (0, 0) };
+    Style { weights: [0, 16, 24, 0, 6, 10, 4, 4, 0, 0, 0, 0, 0, 0, 0, 0], opens_first: 0, length: (0, 0) };
 
 /// A log of that many events with about that many legs; also gives the mean of legs.
 pub fn log(rng: &mut Rng, legs: usize, events: usize) -> (Vec<u8>, f64) {

@@ -2,9 +2,11 @@
 
 use std::collections::HashSet;
 
+use crate::american;
 use crate::board::{Aux, Board, Call, CallState, LinkId, Reference, Row, Standing, INCOMING};
 use crate::carrier::Carrier;
 use crate::event::{event, Answer, Event, RELEASE};
+use crate::notice_answer;
 use crate::notice_carrier;
 use crate::notice_component;
 use crate::notice_inform;
@@ -14,9 +16,10 @@ use crate::notice_pair::looked_up;
 use crate::notice_refused::{bad_field, no_call, not_permitted, open_refused};
 use crate::places;
 use crate::play::{next_record, start};
-use crate::reply::{Told, BUFFER};
+use crate::reply::BUFFER;
 use crate::rows::board_sound;
 use crate::seen_carrier::CarrierSeen;
+use crate::seen_rules::RuleSeen;
 use crate::tally::{Seen, Tally};
 
 /// What happened earlier in the log.
@@ -29,6 +32,8 @@ pub struct Past {
     /// Legs that were released, and those that went with their partner.
     pub released: HashSet<u32>,
     pub went: HashSet<u32>,
+    /// Legs whose call was the named one of their transfer.
+    pub named: HashSet<u32>,
     /// Joined legs that have answered.
     pub answered: HashSet<u32>,
     /// Joined legs that a Leg facility was passed on from and to, and those of one refused with 12.
@@ -70,8 +75,7 @@ pub fn watch(log: &[u8], tally: &mut Tally) -> Result<(), Fault> {
         bad_options(log, tally);
         return Ok(());
     };
-    let options = [Seen::OptionsNone, Seen::OptionsAlerting, Seen::OptionsSubscribed, Seen::OptionsBoth];
-    tally.add(options[(board.subscribed * 2 + board.alerting) as usize]);
+    tally.add(options(&board));
     tally.add_if(rest.is_empty(), Seen::NoRecords);
     let mut past = Past::default();
     let mut number = 0;
@@ -85,6 +89,7 @@ pub fn watch(log: &[u8], tally: &mut Tally) -> Result<(), Fault> {
         stands(&before, &board, answer, &buffer)
             .and_then(|()| invokes_stand(&moment, tally))
             .and_then(|()| places::stands(&moment))
+            .and_then(|()| american::stands(&moment))
             .map_err(|what| Fault { event: number, what })?;
         notice(&moment, &mut past, tally);
         tally.add_if(returned == 4 && rest.len() == 1, Seen::UnknownKindLast);
@@ -97,12 +102,25 @@ pub fn watch(log: &[u8], tally: &mut Tally) -> Result<(), Fault> {
     Ok(())
 }
 
+fn options(board: &Board) -> Seen {
+    let unsubscribed = [Seen::Options00, Seen::Options01, Seen::Options02, Seen::Options03];
+    let subscribed = [Seen::Options10, Seen::Options11, Seen::Options12, Seen::Options13];
+    [unsubscribed, subscribed][board.subscribed as usize][board.alerting as usize]
+}
+
 fn bad_options(log: &[u8], tally: &mut Tally) {
     tally.add(match log {
         [] => Seen::OptionsMissing,
         [_] => Seen::OptionMissing,
-        [0 | 1, ..] => Seen::OptionBadSecond,
-        _ => Seen::OptionBadFirst,
+        [0, 4, ..] => Seen::OptionsBad04,
+        [1, 4, ..] => Seen::OptionsBad14,
+        [0 | 1, 5, ..] => Seen::OptionSecond5,
+        [0 | 1, 0xFF, ..] => Seen::OptionSecondFF,
+        [0 | 1, ..] => Seen::OptionSecondElse,
+        [_, 4..=255, ..] => Seen::OptionsBothBad,
+        [2, ..] => Seen::OptionFirst2,
+        [0xFF, ..] => Seen::OptionFirstFF,
+        _ => Seen::OptionFirstElse,
     });
 }
 
@@ -182,8 +200,7 @@ fn accepted(moment: &Moment, past: &mut Past, tally: &mut Tally) {
         Ok(Event::Release { leg }) => released(moment, leg, past, tally),
         Ok(Event::Answer { leg }) => {
             let Some(row) = row_of_leg(moment.before, leg) else { return };
-            let marks = [Seen::AnswerUnknown, Seen::AnswerGiven, Seen::AnswerWithheld];
-            tally.add(marks[Told::of(row).mark() as usize]);
+            notice_answer::answered(moment.before, row, past, tally);
             notice_leg::answered(row, past, tally);
         }
         Ok(Event::Facility { reference, component }) => {
@@ -233,6 +250,7 @@ fn held(moment: &Moment, reference: Reference, aux: Aux, past: &Past, tally: &mu
 
 fn released(moment: &Moment, leg: u32, past: &mut Past, tally: &mut Tally) {
     let Some(row) = row_of_leg(moment.before, leg) else { return };
+    let rules = moment.before.rules();
     notice_leg::released(row, past, tally);
     notice_inform::released(row, past, tally);
     match row.standing {
@@ -240,11 +258,11 @@ fn released(moment: &Moment, leg: u32, past: &mut Past, tally: &mut Tally) {
             tally.add(Seen::ReleaseServed);
             tally.add_if(call.link.is_some(), Seen::ReleaseLinked);
         }
-        Standing::Joined { alerts: true, .. } => tally.add(Seen::ReleaseAlerting),
+        Standing::Joined { alerts: true, .. } => tally.add((rules, RuleSeen::ReleaseAlerting)),
         Standing::Joined { partner, .. } => {
             let other = row_of_leg(moment.before, partner).map(|row| row.standing);
             let waiting = matches!(other, Some(Standing::Joined { alerts: true, .. }));
-            tally.add(if waiting { Seen::ReleaseWaiting } else { Seen::ReleaseJoined });
+            tally.add((rules, if waiting { RuleSeen::ReleaseWaiting } else { RuleSeen::ReleaseJoined }));
         }
         Standing::Empty => {}
     }

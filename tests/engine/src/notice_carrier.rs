@@ -7,6 +7,7 @@ use crate::notice::{call_of, row_of_leg, Moment, Past};
 use crate::notice_component::elements;
 use crate::notice_invoke::form;
 use crate::notice_refused::reference;
+use crate::rules::RuleSet;
 use crate::seen_carrier::CarrierSeen;
 use crate::tally::Tally;
 use crate::{notice_inform, notice_leg};
@@ -96,6 +97,8 @@ fn common(moment: &Moment, carrier: Carrier, component: &[u8], tally: &mut Tally
         9 | 10 => [AbsentRight, AbsentBefore12, AbsentUnsubscribed],
         11 => [BarredRight, BarredBefore12, BarredUnsubscribed],
         _ => {
+            let american = moment.before.rules() == RuleSet::American;
+            tally.add_if(american, (carrier, CarrierSeen::RefusedAmerican));
             tally.add_if(component.len() == 1, (carrier, CarrierSeen::OneOctet));
             return tally.add_if(component.len() == 64, (carrier, CarrierSeen::Octets64));
         }
@@ -107,9 +110,9 @@ fn common(moment: &Moment, carrier: Carrier, component: &[u8], tally: &mut Tally
 
 /// Who gets something, and the forms in which the component was written.
 fn accepted(moment: &Moment, carrier: Carrier, component: &[u8], tally: &mut Tally) {
-    use CarrierSeen::{AlertingOff, AlertingOn, Id0080, IdFF7F, LastZero, Longest, Octets32, Octets33};
-    use CarrierSeen::{IdNegativeOne, IdNegativeTwo, IdPositiveOne, IdPositiveTwo, Shortest};
-    tally.add((carrier, [AlertingOff, AlertingOn][moment.before.alerting as usize]));
+    use CarrierSeen::{Id0080, IdFF7F, IdNegativeOne, IdNegativeTwo, IdPositiveOne, IdPositiveTwo, LastZero};
+    use CarrierSeen::{Longest, Octets32, Octets33, Option0, Option1, Option2, Option3, Shortest};
+    tally.add((carrier, [Option0, Option1, Option2, Option3][moment.before.alerting as usize]));
     tally.add_if(moment.written[1..5] == [0; 4], (carrier, CarrierSeen::ToLeg0));
     tally.add_if(moment.written[1..5] == [0xFF; 4], (carrier, CarrierSeen::ToHighestLeg));
     if let Some(value) = elements(&component[2..]).first().and_then(|identifier| identifier.integer()) {

@@ -4,13 +4,16 @@ use crate::board::{Aux, Board, Call, CallState, LinkId, Reference, Row, MAX_LIVE
 use crate::carrier::Carrier;
 use crate::component::{read, take, Element, Operation, Reading, MAX_DEPTH};
 use crate::inform::{self, Indication};
-use crate::notice::{Moment, Past};
+use crate::notice::{call_of, Moment, Past};
+use crate::notice_american;
 use crate::notice_carrier;
 use crate::notice_integer::integers;
 use crate::notice_invoke::form;
-use crate::notice_transfer::{transferred, EXPLICIT, IMPLICIT};
+use crate::notice_transfer::{transferred, Asked};
+use crate::rules::{alerting_allowed, RuleSet};
 use crate::seen_inform::InformSeen;
 use crate::seen_leg::LegSeen;
+use crate::seen_rules::RuleSeen;
 use crate::serve::{pairs, verdict};
 use crate::tally::{Seen, Tally};
 
@@ -31,6 +34,11 @@ pub fn served(moment: &Moment, reference: Reference, component: &[u8], past: &mu
             rejected(component, identifier, sort, problem, tally);
         }
         Reading::Invoke { identifier, operation } => {
+            let american = moment.before.rules() == RuleSet::American;
+            if american && operation == Operation::Execute {
+                let Some(call) = call_of(moment.before, reference) else { return };
+                return notice_american::executed(moment.before, call, component, tally);
+            }
             forms(component, identifier, operation, tally);
             invoked(moment, reference, operation, past, tally);
         }
@@ -149,8 +157,8 @@ fn invoked(moment: &Moment, reference: Reference, operation: Operation, past: &m
     if board.subscribed == 0 {
         return tally.add(match operation {
             Operation::Execute => Seen::UnsubscribedExecute,
-            Operation::Explicit(_) => Seen::UnsubscribedExplicit,
-            Operation::LinkRequest => Seen::UnsubscribedLink,
+            Operation::Explicit(_) => return tally.add((board.rules(), RuleSeen::UnsubscribedExplicit)),
+            Operation::LinkRequest => return tally.add((board.rules(), RuleSeen::UnsubscribedLink)),
         });
     }
     match operation {
@@ -172,16 +180,17 @@ pub fn others<'a>(board: &'a Board, call: &'a Call) -> impl Iterator<Item = &'a 
 }
 
 fn linked(moment: &Moment, call: &Call, tally: &mut Tally) {
+    let rules = moment.before.rules();
     let live = moment.before.rows.iter().filter_map(Row::call).filter(|call| call.link.is_some()).count();
     if call.link.is_some() {
-        tally.add(Seen::LinkAgain);
+        tally.add((rules, RuleSeen::LinkAgain));
         return tally.add_if(live == MAX_LIVE, Seen::LinkAgainFull);
     }
     if live == MAX_LIVE {
-        return tally.add(Seen::LinkNone);
+        return tally.add((rules, RuleSeen::LinkNone));
     }
     let given = LinkId(moment.after.candidate.0.wrapping_sub(1)).0;
-    tally.add(Seen::LinkNew);
+    tally.add((rules, RuleSeen::LinkNew));
     tally.add_if(live == MAX_LIVE - 1, Seen::LinkSixteenth);
     tally.add_if(given == i16::MAX, Seen::LinkWrap);
     tally.add_if(given == i16::MIN, Seen::LinkLowest);
@@ -192,11 +201,12 @@ fn linked(moment: &Moment, call: &Call, tally: &mut Tally) {
 
 fn executed(moment: &Moment, named: &Row, call: &Call, past: &mut Past, tally: &mut Tally) {
     let board = moment.before;
-    let verdicts = || others(board, call).filter_map(Row::call).map(|second| verdict(call, second));
+    let verdicts =
+        || others(board, call).filter_map(Row::call).map(|second| verdict(board.rules(), call, second));
     let fitting: Vec<&Row> = others(board, call)
         .filter(|row| row.call().is_some_and(|second| pairs(call, second, board.alerting)))
         .collect();
-    let alerting_off = board.alerting == 0 && verdicts().any(|verdict| verdict == 2);
+    let alerting_off = !alerting_allowed(board.alerting) && verdicts().any(|verdict| verdict == 2);
     let &[other] = fitting.as_slice() else {
         tally.add(if fitting.is_empty() { Seen::ExecuteNone } else { Seen::ExecuteSeveral });
         return tally.add_if(fitting.is_empty() && alerting_off, Seen::ExecuteAlertingOff);
@@ -206,27 +216,50 @@ fn executed(moment: &Moment, named: &Row, call: &Call, past: &mut Past, tally: &
         second.aux == Aux::HoldRequest && second.state == CallState::Active && call.aux == Aux::Idle
     });
     tally.add_if(requested, Seen::TransferPassesHoldRequest);
-    transferred(board, named, other, &IMPLICIT, past, tally);
+    transferred(board, named, other, Asked::Execute, past, tally);
 }
 
 fn explicit(moment: &Moment, named: &Row, call: &Call, link: LinkId, past: &mut Past, tally: &mut Tally) {
-    let Some(other) = row_of(moment.before, |call| call.link == Some(link)) else {
-        tally.add(Seen::NotAssigned);
+    let (board, rules) = (moment.before, moment.before.rules());
+    let Some(other) = row_of(board, |call| call.link == Some(link)) else {
+        tally.add((rules, RuleSeen::NotAssigned));
         tally.add_if(link.0 < 0, Seen::NotAssignedNegative);
         tally.add_if(link.0 == 128, Seen::NotAssigned0080);
         tally.add_if(link.0 == -129, Seen::NotAssignedFF7F);
-        return tally.add_if(past.links.contains(&link), Seen::NotAssignedGone);
+        return tally.add_if(past.links.contains(&link), (rules, RuleSeen::NotAssignedGone));
     };
     let Some(second) = other.call() else { return };
     if other.leg == named.leg {
-        return tally.add(Seen::OwnLink);
+        return own_link(board, call, tally);
     }
-    if !pairs(call, second, moment.before.alerting) {
-        tally.add(Seen::LinkNoPair);
-        return tally.add_if(verdict(call, second) == 2, Seen::LinkAlertingOff);
+    if !pairs(call, second, board.alerting) {
+        return not_paired(rules, call, second, tally);
     }
     link_form(link, tally);
-    transferred(moment.before, named, other, &EXPLICIT, past, tally);
+    if rules == RuleSet::American {
+        notice_american::by_link(moment.record, link, tally);
+    }
+    transferred(board, named, other, Asked::by_link(rules), past, tally);
+}
+
+fn own_link(board: &Board, call: &Call, tally: &mut Tally) {
+    tally.add((board.rules(), RuleSeen::OwnLink));
+    if board.rules() == RuleSet::American {
+        notice_american::own_link(board, call, tally);
+    }
+}
+
+fn not_paired(rules: RuleSet, named: &Call, other: &Call, tally: &mut Tally) {
+    tally.add((rules, RuleSeen::LinkNoPair));
+    if verdict(rules, named, other) != 2 {
+        return;
+    }
+    let named_alerts = named.state == CallState::Delivered;
+    let seen = if named_alerts { RuleSeen::AlertingOffNamed } else { RuleSeen::AlertingOffOther };
+    tally.add((rules, seen));
+    if rules == RuleSet::American {
+        notice_american::not_allowed(named, other, tally);
+    }
 }
 
 fn link_form(link: LinkId, tally: &mut Tally) {

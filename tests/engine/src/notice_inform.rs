@@ -6,6 +6,7 @@ use crate::notice::{call_of, Moment, Past};
 use crate::notice_component::{others, row_of};
 use crate::notice_inform_refused::{absent, not_active, refused};
 use crate::reply::Told;
+use crate::rules::RuleSet;
 use crate::seen_inform::InformSeen;
 use crate::tally::Tally;
 
@@ -99,6 +100,8 @@ fn call_told(board: &Board, row: &Row, past: &Past, tally: &mut Tally) {
     tally.add(if incoming { InformSeen::Incoming } else { InformSeen::Outgoing });
     tally.add_if(call.link.is_some(), InformSeen::Linked);
     tally.add([InformSeen::Unsubscribed, InformSeen::Subscribed][board.subscribed as usize]);
+    let american = board.rules() == RuleSet::American;
+    tally.add_if(american && board.subscribed == 0, InformSeen::AmericanUnsubscribed);
     let twin = Reference(call.reference.0 ^ 0x8000);
     tally.add_if(call_of(board, twin).is_some(), InformSeen::Twin);
     let active = |row: &Row| row.call().is_some_and(|call| call.state == CallState::Active);

@@ -3,6 +3,7 @@
 use crate::board::{Call, Reference, Standing};
 use crate::event::{Event, HOLD, OPEN, PROGRESS};
 use crate::notice::{call_of, row_of_leg, Moment, Past};
+use crate::notice_answer;
 use crate::notice_leg;
 use crate::tally::{Seen, Tally};
 
@@ -82,11 +83,7 @@ pub fn not_permitted(moment: &Moment, past: &Past, tally: &mut Tally) {
         }
         Ok(Event::Answer { leg }) => {
             let Some(row) = row_of_leg(moment.before, leg) else { return };
-            tally.add(if row.call().is_some() {
-                Seen::AnswerServedRefused
-            } else {
-                Seen::AnswerQuietRefused
-            });
+            notice_answer::refused(moment, row, past, tally);
             notice_leg::not_answered(row, past, tally);
         }
         _ => {}

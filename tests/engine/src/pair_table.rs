@@ -1,6 +1,8 @@
-//! The situation of a call as a number, and the verdict on two calls as a table.
+//! The situation of a call as a number, and the verdict on two calls as a table,
+//! one for each rule set.
 
 use crate::board::{Call, CallState, OUTGOING};
+use crate::rules::RuleSet;
 
 /// So many situations there are.
 pub const SITUATIONS: usize = 32;
@@ -8,7 +10,9 @@ pub const SITUATIONS: usize = 32;
 /// One situation, another, and the verdict on them, where it is not 0. The numbers are those
 /// of `situation`: 8 Delivered Idle and 12 Delivered Held, both outgoing; 24 and 25 Active
 /// Idle, 28 and 29 Active Held, outgoing and incoming.
-const NOT_ZERO: [(usize, usize, u8); 16] = [
+type NotZero = (usize, usize, u8);
+
+const EUROPEAN: [NotZero; 16] = [
     (8, 28, 2),
     (8, 29, 2),
     (12, 24, 2),
@@ -27,17 +31,57 @@ const NOT_ZERO: [(usize, usize, u8); 16] = [
     (29, 25, 1),
 ];
 
+const AMERICAN: [NotZero; 24] = [
+    (8, 24, 2),
+    (8, 25, 2),
+    (8, 28, 2),
+    (8, 29, 2),
+    (12, 24, 2),
+    (12, 25, 2),
+    (24, 8, 2),
+    (24, 12, 2),
+    (24, 24, 1),
+    (24, 25, 1),
+    (24, 28, 1),
+    (24, 29, 1),
+    (25, 8, 2),
+    (25, 12, 2),
+    (25, 24, 1),
+    (25, 25, 1),
+    (25, 28, 1),
+    (25, 29, 1),
+    (28, 8, 2),
+    (28, 24, 1),
+    (28, 25, 1),
+    (29, 8, 2),
+    (29, 24, 1),
+    (29, 25, 1),
+];
+
 /// The verdict on two calls, at 32 times the situation of the one plus that of the other.
-pub const TABLE: [u8; SITUATIONS * SITUATIONS] = {
+pub type Table = [u8; SITUATIONS * SITUATIONS];
+
+static EUROPEAN_TABLE: Table = filled(&EUROPEAN);
+static AMERICAN_TABLE: Table = filled(&AMERICAN);
+
+const fn filled(not_zero: &[NotZero]) -> Table {
     let mut table = [0; SITUATIONS * SITUATIONS];
     let mut place = 0;
-    while place < NOT_ZERO.len() {
-        let (one, other, verdict) = NOT_ZERO[place];
+    while place < not_zero.len() {
+        let (one, other, verdict) = not_zero[place];
         table[SITUATIONS * one + other] = verdict;
         place += 1;
     }
     table
-};
+}
+
+/// The table of a rule set.
+pub fn table(rules: RuleSet) -> &'static Table {
+    match rules {
+        RuleSet::European => &EUROPEAN_TABLE,
+        RuleSet::American => &AMERICAN_TABLE,
+    }
+}
 
 /// 8 times the place of the call state, plus twice the auxiliary state, plus the direction.
 /// A direction that no sound board has counts as incoming: it is not outgoing either.
@@ -52,6 +96,6 @@ pub fn situation(call: &Call) -> usize {
 }
 
 /// The verdict on two calls as the table has it.
-pub fn entry(one: &Call, other: &Call) -> u8 {
-    TABLE[SITUATIONS * situation(one) + situation(other)]
+pub fn entry(rules: RuleSet, one: &Call, other: &Call) -> u8 {
+    table(rules)[SITUATIONS * situation(one) + situation(other)]
 }

@@ -235,8 +235,9 @@ impl<'a> Script<'a> {
                 (Aux::HoldRequest | Aux::RetrieveRequest, _) => Aux::Idle,
                 (Aux::Held, _) => Aux::RetrieveRequest,
             };
-            self.put(&records::hold(reference, step as u8));
-            if goal != Aux::Held && goal != Aux::Idle {
+            // A refusal would come again and again: only on a board that a fault of the engine has left.
+            let refused = self.put(&records::hold(reference, step as u8)) != 0;
+            if refused || (goal != Aux::Held && goal != Aux::Idle) {
                 break;
             }
         }

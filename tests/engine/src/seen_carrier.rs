@@ -6,8 +6,11 @@ use crate::tally::{before, occurrences};
 
 occurrences! {
     CarrierSeen, for each Carrier, behind before(3);
-    AlertingOff = "accepted, alerting option 0",
-    AlertingOn = "accepted, alerting option 1",
+    Option0 = "accepted, alerting option 0",
+    Option1 = "accepted, alerting option 1",
+    Option2 = "accepted, alerting option 2",
+    Option3 = "accepted, alerting option 3",
+    RefusedAmerican = "12, American",
     ToLeg0 = "accepted, leg 0 gets what is written",
     ToHighestLeg = "accepted, leg FFFFFFFF gets what is written",
     IdPositiveOne = "accepted, identifier in one octet",

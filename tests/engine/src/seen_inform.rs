@@ -46,6 +46,7 @@ occurrences! {
     Linked = "Inform told, call with a LinkId",
     Subscribed = "Inform told, subscribed",
     Unsubscribed = "Inform told, not subscribed",
+    AmericanUnsubscribed = "Inform told, American, not subscribed",
     Twin = "Inform told beside a reference with the other top bit",
     OtherActive = "Inform told with another Active call on the board",
     PairThere = "Inform told with a pair on the board",

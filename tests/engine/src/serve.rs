@@ -1,15 +1,19 @@
 //! Serving a Facility event.
 
 use crate::board::{Aux, Board, Call, CallState, LinkId, Row, Standing, MAX_LIVE, OUTGOING, ROWS};
-use crate::component::{read, Operation, Reading, LINK_REQUEST};
+use crate::component::{read, Operation, Reading, INVOKE, LINK_REQUEST};
 use crate::lookup::Lookup;
 use crate::reply::{Component, Message, Replies, Told, ACTIVE, ALERTING};
+use crate::rules::{alerting_allowed, RuleSet};
 
 pub const NOT_SUBSCRIBED: u8 = 0;
 pub const INVALID_STATE: u8 = 7;
 pub const UNAVAILABLE: u8 = 11;
+/// The invoke problem of an operation that is not served.
+pub const UNRECOGNISED: u8 = 1;
 
 enum Outcome {
+    Unrecognised,
     Error(u8),
     NotAssigned,
     Link(LinkId),
@@ -34,6 +38,7 @@ pub fn serve(
     };
     let outcome = decide(board, place, &call, index, operation);
     let component = match outcome {
+        Outcome::Unrecognised => Component::reject(identifier, INVOKE, UNRECOGNISED),
         Outcome::Error(value) => Component::error(identifier, value),
         Outcome::NotAssigned => Component::not_assigned(identifier),
         Outcome::Link(link) => Component::link_result(identifier, LINK_REQUEST, link),
@@ -48,6 +53,10 @@ pub fn serve(
 }
 
 fn decide(board: &Board, place: usize, call: &Call, index: &impl Lookup, operation: Operation) -> Outcome {
+    let rules = board.rules();
+    if rules == RuleSet::American && operation == Operation::Execute {
+        return Outcome::Unrecognised;
+    }
     if board.subscribed == 0 {
         return Outcome::Error(NOT_SUBSCRIBED);
     }
@@ -91,9 +100,9 @@ fn keep_link(board: &mut Board, place: usize, call: Call, link: LinkId) {
 }
 
 /// 1 both Active, 2 one Active and one Delivered and outgoing, else 0.
-pub fn verdict(a: &Call, b: &Call) -> u8 {
+pub fn verdict(rules: RuleSet, a: &Call, b: &Call) -> u8 {
     use CallState::{Active, Delivered};
-    if !matches!((a.aux, b.aux), (Aux::Held, Aux::Idle) | (Aux::Idle, Aux::Held)) {
+    if !in_order(rules, a.aux, b.aux) {
         return 0;
     }
     match (a.state, b.state) {
@@ -104,15 +113,25 @@ pub fn verdict(a: &Call, b: &Call) -> u8 {
     }
 }
 
+/// Whether the auxiliary states are in order: one held and the other idle; by American rules
+/// both idle too.
+fn in_order(rules: RuleSet, a: Aux, b: Aux) -> bool {
+    match (a, b) {
+        (Aux::Held, Aux::Idle) | (Aux::Idle, Aux::Held) => true,
+        (Aux::Idle, Aux::Idle) => rules == RuleSet::American,
+        _ => false,
+    }
+}
+
 pub fn pairs(a: &Call, b: &Call, alerting: u8) -> bool {
-    pairs_at(verdict(a, b), alerting)
+    pairs_at(verdict(RuleSet::of(alerting), a, b), alerting)
 }
 
 /// Whether two calls of a verdict pair under the alerting option.
 pub fn pairs_at(verdict: u8, alerting: u8) -> bool {
     match verdict {
         1 => true,
-        2 => alerting == 1,
+        2 => alerting_allowed(alerting),
         _ => false,
     }
 }
@@ -127,7 +146,8 @@ fn only_partner(board: &Board, place: usize, call: &Call) -> Option<usize> {
     first
 }
 
-/// Whether the row at `other` is another call that pairs with the named one.
+/// Whether the row at `other` is another call that pairs with the named one. A call may have
+/// verdict 1 with itself, so that it is known by its place and not by the verdict.
 fn fits(board: &Board, place: usize, call: &Call, other: usize) -> bool {
     let second = board.rows[other].call();
     other != place && second.is_some_and(|second| pairs(call, second, board.alerting))
@@ -139,19 +159,21 @@ fn transfer(board: &mut Board, named: usize, other: usize, replies: &mut Replies
     let (a_alerts, b_alerts) = (a.state == CallState::Delivered, b.state == CallState::Delivered);
     replies.drop_call(a.reference);
     replies.drop_call(b.reference);
-    tell_joined(&first, a_alerts, &second, b_alerts, replies);
-    tell_joined(&second, b_alerts, &first, a_alerts, replies);
+    let rules = board.rules();
+    tell_joined(rules, (&first, a_alerts), (&second, b_alerts), replies);
+    tell_joined(rules, (&second, b_alerts), (&first, a_alerts), replies);
     board.rows[named].standing = Standing::Joined { partner: second.leg, alerts: a_alerts };
     board.rows[other].standing = Standing::Joined { partner: first.leg, alerts: b_alerts };
 }
 
-/// Tells a party of its new partner.
-fn tell_joined(to: &Row, to_alerts: bool, about: &Row, about_alerts: bool, replies: &mut Replies) {
-    if about_alerts {
-        replies.tell(to.leg, Message::Facility, ALERTING, 1, Told::Unknown);
-    } else if to_alerts {
-        replies.tell(to.leg, Message::Notify, ACTIVE, 0, Told::of(about));
-    } else {
-        replies.tell(to.leg, Message::Facility, ACTIVE, 1, Told::of(about));
+/// Tells a party of its new partner, each with whether it alerts. By American rules a party
+/// that alerts is told when it answers.
+fn tell_joined(rules: RuleSet, to: (&Row, bool), about: (&Row, bool), replies: &mut Replies) {
+    let ((row, alerts), (partner, partner_alerts)) = (to, about);
+    match (alerts, partner_alerts) {
+        (_, true) => replies.tell(row.leg, Message::Facility, ALERTING, 1, Told::Unknown),
+        (true, _) if rules == RuleSet::American => {}
+        (true, _) => replies.tell(row.leg, Message::Notify, ACTIVE, 0, Told::of(partner)),
+        _ => replies.tell(row.leg, Message::Facility, ACTIVE, 1, Told::of(partner)),
     }
 }

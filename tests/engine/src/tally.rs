@@ -4,6 +4,8 @@ pub use crate::seen::Seen;
 use crate::seen_carrier::CarrierSeen;
 use crate::seen_inform::{InformSeen, NumberSeen};
 use crate::seen_leg::LegSeen;
+use crate::seen_rules::{AmericanSeen, AnswerSeen, RuleSeen, TransferSeen};
+use crate::seen_verdict::{ApartSeen, IdleSeen, PairSeen};
 
 /// Declares a list of occurrences. Its places among all begin behind those of the lists before;
 /// where it is counted for each of several owners, those of the first owner come first.
@@ -47,7 +49,7 @@ pub enum Alone {
 }
 
 /// The lists in their order, each with what its texts begin with.
-const LISTS: [(&str, &[&str]); 7] = [
+const LISTS: [(&str, &[&str]); 21] = [
     ("", Seen::TEXTS),
     ("", LegSeen::TEXTS),
     ("", InformSeen::TEXTS),
@@ -55,6 +57,20 @@ const LISTS: [(&str, &[&str]); 7] = [
     ("Inform, ", CarrierSeen::TEXTS),
     ("Inform of alerting, ", NumberSeen::TEXTS),
     ("Inform of active, ", NumberSeen::TEXTS),
+    ("European: ", RuleSeen::TEXTS),
+    ("American: ", RuleSeen::TEXTS),
+    ("European: ", AnswerSeen::TEXTS),
+    ("American: ", AnswerSeen::TEXTS),
+    ("European: EctExecute ", TransferSeen::TEXTS),
+    ("European: ExplicitEctExecute ", TransferSeen::TEXTS),
+    ("American: ExplicitEctExecute ", TransferSeen::TEXTS),
+    ("American: ", AmericanSeen::TEXTS),
+    ("European: ", PairSeen::TEXTS),
+    ("American: ", PairSeen::TEXTS),
+    ("European: ", IdleSeen::TEXTS),
+    ("American: ", IdleSeen::TEXTS),
+    ("European: ", ApartSeen::TEXTS),
+    ("American: ", ApartSeen::TEXTS),
 ];
 
 /// The occurrences of so many lists.
@@ -88,6 +104,10 @@ impl Tally {
 
     pub fn add_if(&mut self, test: bool, seen: impl Occurrence) {
         self.counts[seen.place()] += test as u64;
+    }
+
+    pub fn add_each(&mut self, seen: impl IntoIterator<Item = impl Occurrence>) {
+        seen.into_iter().for_each(|seen| self.add(seen));
     }
 
     /// The text of each occurrence with its count.

@@ -40,7 +40,7 @@ fn all_told(desk: &mut Desk, reference: u16, leg: u32) {
 
 #[test]
 fn active_calls_under_any_options() {
-    for (subscribed, alerting) in [(0, 0), (0, 1), (1, 0), (1, 1)] {
+    for (subscribed, alerting) in common::OPTIONS {
         for direction in [0, 1] {
             for aux in 0..=3 {
                 let mut desk = Desk::new(subscribed, alerting);

@@ -70,7 +70,7 @@ fn unchanged() {
 /// Whatever the options of the board are: those under which nothing is transferred too.
 #[test]
 fn options_make_no_difference() {
-    for (subscribed, alerting) in [(0, 0), (0, 1), (1, 0), (1, 1)] {
+    for (subscribed, alerting) in common::OPTIONS {
         let mut desk = Desk::joined(true);
         (desk.board.subscribed, desk.board.alerting) = (subscribed, alerting);
         assert_eq!(passed(&mut desk, 102, &right()), pass_on(101, &right()));

@@ -3,7 +3,7 @@
 mod common;
 
 use common::{refused_with as refused, Desk};
-use engine::board::{Board, Reference, Row, Standing, RESTRICTED};
+use engine::board::{Board, LinkId, Reference, Row, Standing, RESTRICTED};
 use engine::records::{answer, execute, facility, hold, inform, leg_facility, open, progress, release};
 
 fn unsound() -> Board {
@@ -22,10 +22,18 @@ fn full() -> Desk {
 
 #[test]
 fn fresh_board_options() {
-    for (subscribed, alerting) in [(2, 0), (0, 2), (255, 255), (1, 2)] {
-        let (returned, board) = Board::fresh(subscribed, alerting);
-        assert_eq!(returned, 5);
-        assert_eq!(board, Board::fresh(0, 0).1);
+    for subscribed in 0..=255 {
+        for alerting in 0..=255 {
+            let (returned, board) = Board::fresh(subscribed, alerting);
+            let good = subscribed <= 1 && alerting <= 3;
+            assert_eq!(returned, if good { 0 } else { 5 }, "{subscribed} {alerting}");
+            assert_eq!(
+                (board.subscribed, board.alerting),
+                if good { (subscribed, alerting) } else { (0, 0) }
+            );
+            assert!(board.rows.iter().all(|row| *row == Row::EMPTY));
+            assert_eq!(board.candidate, LinkId(0));
+        }
     }
 }
 

@@ -9,6 +9,7 @@ use engine::event::event;
 use engine::invoke::{Invoke, InvokeId};
 use engine::records;
 use engine::rows::count;
+use engine::rules::RuleSet;
 use engine::serve::verdict;
 
 fn state(state: CallState, aux: Aux) -> Call {
@@ -20,8 +21,9 @@ fn pair_verdicts() {
     use Aux::{Held, HoldRequest, Idle, RetrieveRequest};
     use CallState::{Active, Delivered, Proceeding};
     let both = |a: Call, b: Call| {
-        assert_eq!(verdict(&a, &b), verdict(&b, &a));
-        verdict(&a, &b)
+        let of = |a: &Call, b: &Call| verdict(RuleSet::European, a, b);
+        assert_eq!(of(&a, &b), of(&b, &a));
+        of(&a, &b)
     };
     assert_eq!(both(state(Active, Held), state(Active, Idle)), 1);
     assert_eq!(both(state(Active, Held), state(Active, Held)), 0);

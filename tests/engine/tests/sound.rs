@@ -36,7 +36,7 @@ fn busy() -> Desk {
 fn each_rule_of_soundness() {
     let changes: [fn(&mut Board); 20] = [
         |board| board.subscribed = 2,
-        |board| board.alerting = 2,
+        |board| board.alerting = 4,
         |board| board.rows[63].leg = 1,
         |board| board.rows[63].presentation = 1,
         |board| board.rows[63].number.0[15] = 1,
@@ -60,6 +60,19 @@ fn each_rule_of_soundness() {
         let mut board = busy().board;
         change(&mut board);
         assert!(!sound(&board), "change {number}");
+    }
+}
+
+#[test]
+fn options_of_a_sound_board() {
+    let mut board = busy().board;
+    for option in 0..=255 {
+        (board.subscribed, board.alerting) = (1, option);
+        assert_eq!(sound(&board), option <= 3, "alerting {option}");
+        for alerting in 0..=3 {
+            (board.subscribed, board.alerting) = (option, alerting);
+            assert_eq!(sound(&board), option <= 1, "subscribed {option}, alerting {alerting}");
+        }
     }
 }
 

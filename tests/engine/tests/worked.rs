@@ -1,5 +1,7 @@
 //! The worked log and the form of the text.
 
+mod common;
+
 use engine::board::Reference;
 use engine::play::play;
 use engine::records;
@@ -29,11 +31,13 @@ fn worked_log() {
 
 #[test]
 fn options() {
-    for bad in [&[] as &[u8], &[0], &[1], &[2], &[2, 0], &[0, 2], &[255, 255], &[0, 2, 4, 0, 0, 0, 0]] {
+    let short: [&[u8]; 4] = [&[], &[0], &[1], &[2]];
+    let bad: [&[u8]; 6] = [&[2, 0], &[0, 4], &[1, 4], &[2, 3], &[255, 255], &[0, 4, 4, 0, 0, 0, 0]];
+    for bad in short.iter().chain(&bad) {
         assert_eq!(text(bad), "bad options\n");
     }
-    for good in [[0, 0], [0, 1], [1, 0], [1, 1]] {
-        assert_eq!(text(&good), "ect 1\nend 0 0 0\n");
+    for (subscribed, alerting) in common::OPTIONS {
+        assert_eq!(text(&[subscribed, alerting]), "ect 1\nend 0 0 0\n");
     }
 }
 

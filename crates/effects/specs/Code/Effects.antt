@@ -19,6 +19,7 @@ use Rattle.effects.specs.declared.Effect.{Effect}
 use Rattle.events.specs.declared.Refusal.{Refusal}
 use Rattle.replies.specs.declared.Out.{Out}
 use Rattle.replies.specs.declared.FarParty.{FarParty}
+use Rattle.replies.specs.declared.NumberedLeg.{NumberedLeg}
 use Rattle.replies.specs.Code.Writing.{rendered}
 use Rattle.serving.specs.Code.Parties.{entries_of}
 
@@ -60,6 +61,10 @@ pub record Describes (rows : List Row) (p : Party) (f : FarParty) : Type 0 where
   pub leg : f.leg ≡ p.leg
   pub alerts : f.alerts ≡ delivered p.call
   pub number : f.number ≡ number_at rows p.leg
+
+-- a leg, with the number of its party
+abbrev pub numbered : List Row → ℕ → NumberedLeg
+numbered rows l = record { leg = l; number = number_at rows l }
 
 -- what an Open and a Facility come to on the board, with the fields of their records
 abbrev pub open_on : Board → ℕ → ℕ → Direction → PartyNumber → Decision

@@ -1,8 +1,9 @@
 -- The replies of an event as a value, and the numbers of what a far party is told.
-use Rattle.std.specs.Prelude.{ℕ, Bool, true, false, List, [], ◌∷◌, ◌++◌}
+use Rattle.std.specs.Prelude.{ℕ, Bool, true, false, List, ◌∷◌, ◌++◌}
 use Rattle.octets.specs.declared.CallReference.{CallReference}
 use Rattle.octets.specs.declared.IntegerOctets.{IntegerOctets}
 use Rattle.component.specs.declared.Answer.TheVariants as answer
+use Rattle.board.specs.declared.RuleSet.{RuleSet}
 use Rattle.replies.specs.declared.Out.{Out}
 use Rattle.replies.specs.declared.FarParty.{FarParty}
 use Rattle.replies.specs.declared.Message.{Message}
@@ -34,13 +35,12 @@ request_number false = 0
 request_number true = 1
 
 -- each is told of the other, the named one first
-abbrev pub transfer_tells : FarParty → FarParty → List ReplyRecord
-transfer_tells named other =
-    told named.leg named.alerts other.alerts other.number
-    ∷ told other.leg other.alerts named.alerts named.number
-    ∷ []
+abbrev pub transfer_tells : RuleSet → FarParty → FarParty → List ReplyRecord
+transfer_tells r named other =
+    told r named.leg named.alerts other.alerts other.number
+    ++ told r other.leg other.alerts named.alerts named.number
 
 -- the records of a transfer, the Reply on the reference r, the named one's Drop first
-abbrev pub transfer_records : CallReference → IntegerOctets → FarParty → FarParty → List ReplyRecord
-transfer_records r i named other =
-    Reply r.0 (answer.Result i) ∷ (drops named.reference.0 other.reference.0 ++ transfer_tells named other)
+abbrev pub transfer_records : RuleSet → CallReference → IntegerOctets → FarParty → FarParty → List ReplyRecord
+transfer_records rules r i named other =
+    Reply r.0 (answer.Result i) ∷ (drops named.reference.0 other.reference.0 ++ transfer_tells rules named other)

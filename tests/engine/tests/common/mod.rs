@@ -9,6 +9,9 @@ use engine::tally::Tally;
 
 pub const ID: &[u8] = &[0x02, 0x01, 0x05];
 
+/// All options of a board.
+pub const OPTIONS: [(u8, u8); 8] = [(0, 0), (0, 1), (0, 2), (0, 3), (1, 0), (1, 1), (1, 2), (1, 3)];
+
 pub struct Desk {
     pub board: Board,
 }
@@ -78,6 +81,19 @@ impl Desk {
         let calls = self.board.rows.iter().filter_map(|row| row.call());
         calls.copied().find(|call| call.reference == Reference(reference))
     }
+}
+
+/// Calls 1 and 2 of legs 7 and 9 with such presentations and digits, both Idle, the first Active, the
+/// second in that state.
+pub fn two_idle(alerting: u8, state: u8, numbers: [(u8, &[u8]); 2]) -> Desk {
+    let mut desk = Desk::new(1, alerting);
+    for ((reference, leg, state), (presentation, digits)) in
+        [(1, 7, 10), (2, 9, state)].into_iter().zip(numbers)
+    {
+        desk.ok(&records::open(Reference(reference), leg, 0, presentation, digits));
+        desk.ok(&records::progress(Reference(reference), state));
+    }
+    desk
 }
 
 /// A call of each state, auxiliary state and direction, 32 in all, the direction changing fastest.

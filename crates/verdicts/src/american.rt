@@ -1,6 +1,4 @@
-// A verdict for each two situations: 32 times the first one's number plus the second one's is the place.
-// Zeros but for eight ones and eight twos. A verdict is a number, as the specification has it: 0 no pair, 1 a pair,
-// 2 a pair where the alerting option is 1. The table on paper is made from it: docs/PAIR-TABLE.md.
+// The companion of the European table, by American rules: zeros but for twelve ones and twelve twos.
 pub static VERDICTS: [u8; 1024] = [
     // 0: Outgoing Call Proceeding, Idle, outgoing
     0, 0, 0, 0, 0, 0, 0, 0, 0, 0, 0, 0, 0, 0, 0, 0, 0, 0, 0, 0, 0, 0, 0, 0, 0, 0, 0, 0, 0, 0, 0, 0,
@@ -19,7 +17,9 @@ pub static VERDICTS: [u8; 1024] = [
     // 7: Outgoing Call Proceeding, Retrieve Request, incoming
     0, 0, 0, 0, 0, 0, 0, 0, 0, 0, 0, 0, 0, 0, 0, 0, 0, 0, 0, 0, 0, 0, 0, 0, 0, 0, 0, 0, 0, 0, 0, 0,
     // 8: Call Delivered, Idle, outgoing
-    0, 0, 0, 0, 0, 0, 0, 0, 0, 0, 0, 0, 0, 0, 0, 0, 0, 0, 0, 0, 0, 0, 0, 0, 0, 0, 0, 0, 2, // 8 with 28
+    0, 0, 0, 0, 0, 0, 0, 0, 0, 0, 0, 0, 0, 0, 0, 0, 0, 0, 0, 0, 0, 0, 0, 0, 2, // 8 with 24
+    2, // 8 with 25
+    0, 0, 2, // 8 with 28
     2, // 8 with 29
     0, 0,
     // 9: Call Delivered, Idle, incoming
@@ -55,13 +55,19 @@ pub static VERDICTS: [u8; 1024] = [
     // 23: Call Received, Retrieve Request, incoming
     0, 0, 0, 0, 0, 0, 0, 0, 0, 0, 0, 0, 0, 0, 0, 0, 0, 0, 0, 0, 0, 0, 0, 0, 0, 0, 0, 0, 0, 0, 0, 0,
     // 24: Active, Idle, outgoing
-    0, 0, 0, 0, 0, 0, 0, 0, 0, 0, 0, 0, 2, // 24 with 12
-    0, 0, 0, 0, 0, 0, 0, 0, 0, 0, 0, 0, 0, 0, 0, 1, // 24 with 28
+    0, 0, 0, 0, 0, 0, 0, 0, 2, // 24 with 8
+    0, 0, 0, 2, // 24 with 12
+    0, 0, 0, 0, 0, 0, 0, 0, 0, 0, 0, 1, // 24 with 24
+    1, // 24 with 25
+    0, 0, 1, // 24 with 28
     1, // 24 with 29
     0, 0,
     // 25: Active, Idle, incoming
-    0, 0, 0, 0, 0, 0, 0, 0, 0, 0, 0, 0, 2, // 25 with 12
-    0, 0, 0, 0, 0, 0, 0, 0, 0, 0, 0, 0, 0, 0, 0, 1, // 25 with 28
+    0, 0, 0, 0, 0, 0, 0, 0, 2, // 25 with 8
+    0, 0, 0, 2, // 25 with 12
+    0, 0, 0, 0, 0, 0, 0, 0, 0, 0, 0, 1, // 25 with 24
+    1, // 25 with 25
+    0, 0, 1, // 25 with 28
     1, // 25 with 29
     0, 0,
     // 26: Active, Hold Request, outgoing
