@@ -12,7 +12,8 @@ pub const SITUATIONS: usize = 32;
 /// Idle, 28 and 29 Active Held, outgoing and incoming.
 type NotZero = (usize, usize, u8);
 
-const EUROPEAN: [NotZero; 16] = [
+/// By both rule sets: one call held.
+const ONE_HELD: [NotZero; 16] = [
     (8, 28, 2),
     (8, 29, 2),
     (12, 24, 2),
@@ -31,41 +32,25 @@ const EUROPEAN: [NotZero; 16] = [
     (29, 25, 1),
 ];
 
-const AMERICAN: [NotZero; 24] = [
+/// By American rules these too: neither call held.
+const NEITHER_HELD: [NotZero; 8] = [
     (8, 24, 2),
     (8, 25, 2),
-    (8, 28, 2),
-    (8, 29, 2),
-    (12, 24, 2),
-    (12, 25, 2),
     (24, 8, 2),
-    (24, 12, 2),
     (24, 24, 1),
     (24, 25, 1),
-    (24, 28, 1),
-    (24, 29, 1),
     (25, 8, 2),
-    (25, 12, 2),
     (25, 24, 1),
     (25, 25, 1),
-    (25, 28, 1),
-    (25, 29, 1),
-    (28, 8, 2),
-    (28, 24, 1),
-    (28, 25, 1),
-    (29, 8, 2),
-    (29, 24, 1),
-    (29, 25, 1),
 ];
 
 /// The verdict on two calls, at 32 times the situation of the one plus that of the other.
 pub type Table = [u8; SITUATIONS * SITUATIONS];
 
-static EUROPEAN_TABLE: Table = filled(&EUROPEAN);
-static AMERICAN_TABLE: Table = filled(&AMERICAN);
+static EUROPEAN: Table = with([0; SITUATIONS * SITUATIONS], &ONE_HELD);
+static AMERICAN: Table = with(with([0; SITUATIONS * SITUATIONS], &ONE_HELD), &NEITHER_HELD);
 
-const fn filled(not_zero: &[NotZero]) -> Table {
-    let mut table = [0; SITUATIONS * SITUATIONS];
+const fn with(mut table: Table, not_zero: &[NotZero]) -> Table {
     let mut place = 0;
     while place < not_zero.len() {
         let (one, other, verdict) = not_zero[place];
@@ -78,8 +63,8 @@ const fn filled(not_zero: &[NotZero]) -> Table {
 /// The table of a rule set.
 pub fn table(rules: RuleSet) -> &'static Table {
     match rules {
-        RuleSet::European => &EUROPEAN_TABLE,
-        RuleSet::American => &AMERICAN_TABLE,
+        RuleSet::European => &EUROPEAN,
+        RuleSet::American => &AMERICAN,
     }
 }
 
