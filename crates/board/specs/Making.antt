@@ -9,7 +9,7 @@ use Rattle.board.specs.Soundness.{valid_options}
 
 -- "empty (all else zero)"
 abbrev pub empty_row : Row
-empty_row = record { leg = 0; number = record { presentation = 0; count = 0; digits = replicate 15 0 }; standing = Empty }
+empty_row = record { leg = 0; number = record { presentation = 0; type_of_number = 0; count = 0; digits = replicate 15 0 }; standing = Empty }
 
 -- "64 rows, two options .. and the next LinkId candidate, 0 at first"
 abbrev pub empty_board : Options → Board

@@ -19,13 +19,14 @@ use Rattle.board.specs.LinkIds.{most_link_ids}
 abbrev pub valid_digits : ℕ → List ℕ → Bool
 valid_digits n ds = eqb (length ds) 15 && leb n 15 && all is_digit (take n ds) && zeros (drop n ds)
 
--- "presentation 1 (0 shown, 1 restricted)"
+-- "presentation 1 (0 shown, 1 restricted)"; "a type of number (0 unknown, 1 international, 2 national)"
+-- (document 02, slip 8), of a number without digits too
 abbrev pub valid_number : PartyNumber → Bool
-valid_number n = leb n.presentation 1 && valid_digits n.count n.digits
+valid_number n = leb n.presentation 1 && leb n.type_of_number 2 && valid_digits n.count n.digits
 
 -- "all else zero"
 abbrev pub zero_number : PartyNumber → Bool
-zero_number n = eqb n.presentation 0 && eqb n.count 0 && valid_digits 0 n.digits
+zero_number n = eqb n.presentation 0 && eqb n.type_of_number 0 && eqb n.count 0 && valid_digits 0 n.digits
 
 -- "A row is empty (all else zero), or has a leg number .., its presentation, its digits, and one standing"
 abbrev pub valid_standing : ℕ → PartyNumber → Standing → Bool

@@ -97,11 +97,13 @@ pub enum Standing {
     Joined { partner: u32, alerting: bool },
 }
 
-// The number of a far party: its presentation (0 shown, 1 restricted), and as many digits as the count says.
+// The number of a far party: its presentation (0 shown, 1 restricted), its type of number (0 unknown, 1 international,
+// 2 national), and as many digits as the count says.
 // Octets and a count, as a board that is lent may hold any, and soundness judges it.
 #[derive(Clone, Copy, Debug, PartialEq, Eq)]
 pub struct PartyNumber {
     pub presentation: u8,
+    pub type_of_number: u8,
     pub count: u8,
     pub digits: [u8; 15],
 }
@@ -235,6 +237,7 @@ pub fn empty_row() -> Row
 {
     let number = PartyNumber {
         presentation: 0,
+        type_of_number: 0,
         count: 0,
         digits: [0u8; 15],
     };
@@ -271,11 +274,13 @@ pub fn valid_reference(reference: CallReference) -> bool
     reference.0 % 32768 != 0
 }
 
-// Shown or restricted, with digits that are valid.
+// Shown or restricted, of a type that there is, with digits that are valid: none, of any type, and as many as 15.
 pub fn valid_number(number: PartyNumber) -> bool
     ensures { result ≡ valid_number number }
 {
-    number.presentation <= 1 && valid_digits(number.count, &number.digits)
+    number.presentation <= 1
+        && number.type_of_number <= 2
+        && valid_digits(number.count, &number.digits)
 }
 
 // The first is 0 or 1, the second 0 to 3.

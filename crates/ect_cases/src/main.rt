@@ -1,6 +1,6 @@
 // Runs cases and prints a line for each: every refusal of `step`, an Inform, a transfer with a subaddress passed on,
-// one by American rules, README's sample, invokes that are written and read back, integers that are padded or not,
-// and forms of subaddresses.
+// one of a number with a type, one by American rules, README's sample, invokes that are written and read back,
+// integers that are padded or not, and forms of subaddresses.
 #![tactic(auto)]
 
 use board::{Board, Direction, Options};
@@ -129,6 +129,7 @@ fn main(rt: HostRuntime) -> io::Result<()> {
     on_the_board(&rt, fresh)?;
     informing(&rt, fresh)?;
     transfer::ward_transfer(&rt, fresh)?;
+    transfer::international_transfer(&rt, fresh)?;
     transfer::american_transfer(&rt)?;
     sample::sample(&rt)?;
     invoking::written_and_read(&rt)?;

@@ -13,6 +13,32 @@ pub fn open(reference: u8, leg: u8, direction: Direction, digits: [u8; 2]) -> [u
     padded(&[1, 0, reference, 0, 0, 0, leg, direction as u8, 0, 2, a, b])
 }
 
+// The same of kind 9, with a type of number.
+pub fn typed_open(
+    reference: u8,
+    leg: u8,
+    direction: Direction,
+    type_of_number: u8,
+    digits: [u8; 2],
+) -> [u8; 26] {
+    let [a, b] = digits;
+    padded(&[
+        9,
+        0,
+        reference,
+        0,
+        0,
+        0,
+        leg,
+        direction as u8,
+        0,
+        type_of_number,
+        2,
+        a,
+        b,
+    ])
+}
+
 // EctExecute on the call with that reference: a1 06, identifier 02 01 05, operation 02 01 06.
 pub fn execute(reference: u8) -> [u8; 36] {
     padded(&[5, 0, reference, 8, 0xa1, 6, 2, 1, 5, 2, 1, 6])

@@ -1,6 +1,7 @@
 // How an exchange calls `step`: a held call and an alerting one are transferred to each other, the ward's subaddress
-// is passed on, and the ward answers; by American rules the call is not held, and the ward is told when it answers.
-use crate::records::{execute, execute_explicitly, leg_facility, open, request};
+// is passed on, and the ward answers; a number is told with its type; by American rules the call is not held, and the
+// ward is told when it answers.
+use crate::records::{execute, execute_explicitly, leg_facility, open, request, typed_open};
 use crate::show::Replied;
 use board::{Board, Direction};
 use std::io;
@@ -35,6 +36,21 @@ pub fn ward_transfer(rt: &impl Print, fresh: Board) -> io::Result<()> {
         &leg_facility(2, 3),
         &leg_facility(2, 4),
         b"\x06\x00\x00\x00\x02",
+    ];
+    each(rt, fresh, &events)
+}
+
+pub fn international_transfer(rt: &impl Print, fresh: Board) -> io::Result<()> {
+    // A type of number that there is not is refused; the ward is told a number with its type, the caller one of type 0.
+    let events: [&[u8]; 8] = [
+        &typed_open(1, 1, Direction::Incoming, 3, *b"21"),
+        &typed_open(1, 1, Direction::Incoming, 1, *b"21"),
+        b"\x02\x00\x01\x0a",
+        b"\x03\x00\x01\x01",
+        b"\x03\x00\x01\x02",
+        &typed_open(2, 2, Direction::Outgoing, 0, *b"22"),
+        b"\x02\x00\x02\x0a",
+        &execute(1),
     ];
     each(rt, fresh, &events)
 }

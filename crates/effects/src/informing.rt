@@ -29,7 +29,7 @@ fn number_as_received(number: RedirectionNumber<'_>) -> TellNumber
     match number {
         RedirectionNumber::NotSent => unknown(),
         RedirectionNumber::Restricted => withheld(),
-        RedirectionNumber::Given(digits) => given(digits.len() as u8, in_fifteen(digits)),
+        RedirectionNumber::Given(digits) => given(0, digits.len() as u8, in_fifteen(digits)),
     }
 }
 

@@ -30,14 +30,22 @@ pub data Request : Type 0 where
 abbrev pub field : ℕ → ℕ → List ℕ → ℕ
 field i n body = number_of (take n (drop i body))
 
--- "presentation 1, digit count 1, 15 octets", which end the body
-abbrev pub number_in : List ℕ → PartyNumber
-number_in b = record { presentation = get_or b 7 0; count = get_or b 8 0; digits = drop 9 b }
+-- a number with a presentation and a type; "digit count 1, 15 octets", which end the body
+abbrev pub number_in : ℕ → ℕ → List ℕ → PartyNumber
+number_in p t digits = record { presentation = p; type_of_number = t; count = get_or digits 0 0; digits = drop 1 digits }
 
 -- "reference 2, leg 4, direction 1 (0 outgoing, 1 incoming)", then the number
-abbrev pub open_body : List ℕ → Option Direction → Request
-open_body b None = Malformed FieldOutOfRange
-open_body b (Some d) = Open (field 0 2 b) (field 2 4 b) d (number_in b)
+abbrev pub open_body : List ℕ → PartyNumber → Option Direction → Request
+open_body b n None = Malformed FieldOutOfRange
+open_body b n (Some d) = Open (field 0 2 b) (field 2 4 b) d n
+
+-- "presentation 1, digit count 1, 15 octets"; "event 1 means type 0" (document 02, slip 8)
+abbrev pub untyped_number_in : List ℕ → PartyNumber
+untyped_number_in b = number_in (get_or b 7 0) 0 (drop 8 b)
+
+-- "Event 9 is Open with that octet after presentation" (document 02, slip 8)
+abbrev pub typed_number_in : List ℕ → PartyNumber
+typed_number_in b = number_in (get_or b 7 0) (get_or b 8 0) (drop 9 b)
 
 -- "reference 2, state 1: 4 or 10"
 abbrev pub progress_body : ℕ → ℕ → Request
@@ -87,7 +95,7 @@ sized k b q = cond (eqb (length b) (body_length k)) (ranged q) (Malformed WrongL
 -- "4: kind not listed (judged before length)"
 abbrev pub of_kind : ℕ → List ℕ → Request
 of_kind k b =
-    cond (eqb k 1) (sized 1 b (open_body b (direction_with (get_or b 6 0))))
+    cond (eqb k 1) (sized 1 b (open_body b (untyped_number_in b) (direction_with (get_or b 6 0))))
     (cond (eqb k 2) (sized 2 b (progress_body (field 0 2 b) (get_or b 2 0)))
     (cond (eqb k 3) (sized 3 b (hold_body (field 0 2 b) (auxiliary_with (get_or b 2 0))))
     (cond (eqb k 4) (sized 4 b (Release (field 0 4 b)))
@@ -95,7 +103,8 @@ of_kind k b =
     (cond (eqb k 6) (sized 6 b (Answer (field 0 4 b)))
     (cond (eqb k 7) (sized 7 b (leg_facility_body b))
     (cond (eqb k 8) (sized 8 b (inform_body (field 0 2 b) (get_or b 2 0) (drop 3 b)))
-    (Malformed UnknownKind))))))))
+    (cond (eqb k 9) (sized 9 b (open_body b (typed_number_in b) (direction_with (get_or b 6 0))))
+    (Malformed UnknownKind)))))))))
 
 -- the kind, then the body; "3: record empty"
 unfoldable pub request : List ℕ → Request

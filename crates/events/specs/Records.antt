@@ -1,8 +1,8 @@
 -- How long a record is by its kind, and a log as a list of records (document 01, "Event records").
 use Rattle.std.specs.Prelude.{ℕ, zero, suc, ◌+◌, cond, List, [], ◌∷◌, eqb, length, take, drop, get_or}
 
--- the table of kinds, its column "body"; "event 7, Leg facility (body 69 ..)", "event 8 (body 67 ..)" (document 02,
--- slips 5 and 6); a kind that is not listed has none
+-- the table of kinds, its column "body"; "event 7, Leg facility (body 69 ..)", "event 8 (body 67 ..)", "Event 9 ..
+-- (body 25)" (document 02, slips 5, 6 and 8); a kind that is not listed has none
 abbrev pub body_length : ℕ → ℕ
 body_length kind =
     cond (eqb kind 1) 24
@@ -13,7 +13,8 @@ body_length kind =
     (cond (eqb kind 6) 4
     (cond (eqb kind 7) 69
     (cond (eqb kind 8) 67
-    0)))))))
+    (cond (eqb kind 9) 25
+    0))))))))
 
 -- "One octet of kind, then a body of fixed length"
 abbrev pub record_length : ℕ → ℕ

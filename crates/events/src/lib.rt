@@ -8,6 +8,7 @@ ghost use Rattle.events.specs.declared.Refusal.TheVariants.{FieldOutOfRange};
 use board::OutOfRange;
 use thiserror::Error;
 
+pub mod logs;
 pub mod records;
 
 // Why an event is refused, in the order of the checks; documents 01 and 02 number them from 1 to 12.

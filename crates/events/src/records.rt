@@ -1,8 +1,9 @@
 // Event records: what a record asks for, or why it is none. Places are those of the body, behind the kind.
-ghost use Rattle.std.specs.Prelude.{◌≡◌, length, MatchResult, ◌≢◌};
+ghost use Rattle.std.specs.Prelude.{◌≡◌, length, get_or, MatchResult, ◌≢◌};
+ghost use Rattle.board.specs.States.{direction_with};
 ghost use Rattle.events.specs.Records.{record_length};
 ghost use Rattle.events.specs.declared.Refusal.TheVariants.{WrongLength};
-ghost use Rattle.events.specs.EventRecords.{field, valid_component, of_kind, request};
+ghost use Rattle.events.specs.EventRecords.{field, open_body, ranged, valid_component, of_kind, request};
 ghost use Rattle.events.specs.Code.RecordValues.{leg_read, reference_read, request_read};
 
 use crate::Refusal;
@@ -12,6 +13,8 @@ use octets::CallReference;
 
 // How many octets the body of each kind has. That of a Release or an Answer is a leg alone.
 const OPEN: usize = 24;
+
+const TYPED_OPEN: usize = 25;
 
 const PROGRESS: usize = 3;
 
@@ -56,6 +59,7 @@ pub fn record_length(kind: u8) -> usize
         5 => FACILITY,
         7 => LEG_FACILITY,
         8 => INFORM,
+        9 => TYPED_OPEN,
         _ => 0,
     };
     1 + body
@@ -87,19 +91,13 @@ fn valid_component(count: u8, octets: &[u8]) -> bool
     0 < n && n <= octets.len() && all_zeros(&octets[n..])
 }
 
-fn read_open(body: &[u8]) -> Result<Request<'_>, Refusal>
-    ensures { request_read result ≡ of_kind 1 body.now }
+// The fields of an Open, its first seven octets and its number.
+fn open_request(front: [u8; 7], number: PartyNumber) -> Result<Request<'static>, Refusal>
+    ensures { request_read result ≡ ranged (open_body front number (direction_with (get_or front 6 0))) }
 {
-    let body = sized::<OPEN>(body)?;
-    let [r0, r1, l0, l1, l2, l3, direction, presentation, count, ..] = *body;
-    let digits: [u8; 15] = *body.last_chunk().unwrap();
+    let [r0, r1, l0, l1, l2, l3, direction] = front;
     let reference = read_reference([r0, r1])?;
     let direction = Direction::try_from(direction)?;
-    let number = PartyNumber {
-        presentation,
-        count,
-        digits,
-    };
     if !valid_number(number) {
         return Err(Refusal::FieldOutOfRange);
     }
@@ -109,6 +107,32 @@ fn read_open(body: &[u8]) -> Result<Request<'_>, Refusal>
         direction,
         number,
     })
+}
+
+fn read_open(body: &[u8]) -> Result<Request<'_>, Refusal>
+    ensures { request_read result ≡ of_kind 1 body.now }
+{
+    let body = sized::<OPEN>(body)?;
+    let number = PartyNumber {
+        presentation: body[7],
+        type_of_number: 0,
+        count: body[8],
+        digits: *body.last_chunk().unwrap(),
+    };
+    open_request(*body.first_chunk().unwrap(), number)
+}
+
+fn read_typed_open(body: &[u8]) -> Result<Request<'_>, Refusal>
+    ensures { request_read result ≡ of_kind 9 body.now }
+{
+    let body = sized::<TYPED_OPEN>(body)?;
+    let number = PartyNumber {
+        presentation: body[7],
+        type_of_number: body[8],
+        count: body[9],
+        digits: *body.last_chunk().unwrap(),
+    };
+    open_request(*body.first_chunk().unwrap(), number)
 }
 
 fn read_progress(body: &[u8]) -> Result<Request<'_>, Refusal>
@@ -191,6 +215,7 @@ fn read_body(kind: u8, body: &[u8]) -> Result<Request<'_>, Refusal>
         6 => Ok(Request::Answer(read_leg(body)?)),
         7 => read_leg_facility(body),
         8 => read_inform(body),
+        9 => read_typed_open(body),
         _ => Err(Refusal::UnknownKind),
     }
 }

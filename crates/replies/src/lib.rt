@@ -3,8 +3,9 @@
 
 ghost use Rattle.std.specs.Prelude.{◌≡◌, [], ◌∷◌, ◌++◌, ◌+◌, ◌≤◌, length};
 ghost use Rattle.rules.specs.Replies.{Reply, Tell, Drop, Gone, PassOn, octets, record_octets};
-ghost use Rattle.rules.specs.Replies.{mark_only, number_as_told, told};
+ghost use Rattle.rules.specs.Replies.{mark_only, number_as_told, typed, untyped_tell, typed_tell, told};
 ghost use Rattle.rules.specs.Replies.{facility, transferred_active, given, inform_record, answering_party_told};
+ghost use Rattle.octets.specs.Numbers.{four};
 ghost use Rattle.replies.specs.Code.Writing.{rendered, transfer_records};
 ghost use Rattle.replies.specs.Code.Writing.{message_number, description_number, request_number};
 
@@ -65,6 +66,7 @@ fn mark_only(mark: u8) -> TellNumber
 {
     TellNumber {
         mark,
+        type_of_number: 0,
         count: 0,
         digits: [0u8; 15],
     }
@@ -84,15 +86,23 @@ pub fn withheld() -> TellNumber
     mark_only(WITHHELD)
 }
 
-// A number of so many digits.
-pub fn given(count: u8, digits: [u8; 15]) -> TellNumber
-    ensures { result ≡ given count digits }
+// A number of a type and so many digits.
+pub fn given(type_of_number: u8, count: u8, digits: [u8; 15]) -> TellNumber
+    ensures { result ≡ given type_of_number count digits }
 {
     TellNumber {
         mark: GIVEN,
+        type_of_number,
         count,
         digits,
     }
+}
+
+// Whether its Tell has its type.
+fn is_typed(number: TellNumber) -> bool
+    ensures { result ≡ typed number }
+{
+    number.mark == GIVEN && matches!(number.type_of_number, 1 | 2)
 }
 
 // A far party's number as it is told. Digits that are restricted are withheld, so they never reach the octets.
@@ -105,7 +115,7 @@ pub fn number_as_told(number: PartyNumber) -> TellNumber
     if number.presentation == 1 {
         return withheld();
     }
-    given(number.count, number.digits)
+    given(number.type_of_number, number.count, number.digits)
 }
 
 // A record of its head and of octets that come with their zeros.
@@ -144,30 +154,60 @@ fn gone_record(leg: u32) -> [u8; 5]
     [0x84, a, b, c, d]
 }
 
-fn tell_record(
+// What goes before a Tell's type of number or digit count.
+fn tell_head(
+    kind: u8,
     leg: u32,
     message: Message,
     description: Description,
-    number: TellNumber,
+    mark: u8,
     request: bool,
-) -> [u8; 25]
-    ensures { result ≡ record_octets
-        (Tell leg (message_number message) (description_number description) number (request_number request)) }
+) -> [u8; 9]
+    ensures { result ≡ kind ∷ (four leg ++ (message_number message ∷ description_number description ∷ mark
+        ∷ request_number request ∷ [])) }
 {
     let [a, b, c, d] = leg.to_be_bytes();
-    let head = [
-        0x82,
+    [
+        kind,
         a,
         b,
         c,
         d,
         message as u8,
         description as u8,
-        number.mark,
+        mark,
         u8::from(request),
-        number.count,
-    ];
-    joined(&head, &number.digits)
+    ]
+}
+
+fn untyped_tell(
+    leg: u32,
+    message: Message,
+    description: Description,
+    number: TellNumber,
+    request: bool,
+) -> [u8; 25]
+    ensures { result ≡ untyped_tell leg (message_number message) (description_number description) number
+        (request_number request) }
+{
+    let head = tell_head(0x82, leg, message, description, number.mark, request);
+    let rest: [u8; 16] = joined(&[number.count], &number.digits);
+    joined(&head, &rest)
+}
+
+fn typed_tell(
+    leg: u32,
+    message: Message,
+    description: Description,
+    number: TellNumber,
+    request: bool,
+) -> [u8; 26]
+    ensures { result ≡ typed_tell leg (message_number message) (description_number description) number
+        (request_number request) }
+{
+    let head = tell_head(0x86, leg, message, description, number.mark, request);
+    let rest: [u8; 17] = joined(&[number.type_of_number, number.count], &number.digits);
+    joined(&head, &rest)
 }
 
 fn pass_on_record(leg: u32, count: u8, component: [u8; 64]) -> [u8; 70]
@@ -175,13 +215,6 @@ fn pass_on_record(leg: u32, count: u8, component: [u8; 64]) -> [u8; 70]
 {
     let [a, b, c, d] = leg.to_be_bytes();
     joined(&[0x85, a, b, c, d, count], &component)
-}
-
-// What an answer tells a leg of the other's number.
-fn answered_record(leg: u32, number: TellNumber) -> [u8; 25]
-    ensures { result ≡ record_octets (Tell leg facility transferred_active number 0) }
-{
-    tell_record(leg, Facility, TransferredActive, number, false)
 }
 
 impl Out {
@@ -195,29 +228,56 @@ impl Out {
         self
     }
 
-    // With what a transfer tells a party of the other: by American rules nothing while it alerts.
+    // With a Tell, of the kind that its number asks for.
     #[tactic(auto, unfolding(rules::specs::Replies::octets))]
+    fn tell(
+        self,
+        leg: u32,
+        message: Message,
+        description: Description,
+        number: TellNumber,
+        request: bool,
+    ) -> Out
+        requires { length self.octets.items ≤ 102 }
+        ensures items { result.octets.items ≡ self.octets.items ++ octets
+            (Tell leg (message_number message) (description_number description) number (request_number request) ∷ []) }
+        ensures len { length result.octets.items ≤ length self.octets.items + 26 }
+    {
+        if is_typed(number) {
+            return self.with(&typed_tell(leg, message, description, number, request));
+        }
+        self.with(&untyped_tell(leg, message, description, number, request))
+    }
+
+    // With what a transfer tells a party of the other: by American rules nothing while it alerts.
     fn told(self, rules: RuleSet, party: FarParty, other: FarParty) -> Out
-        requires { length self.octets.items ≤ 103 }
+        requires { length self.octets.items ≤ 102 }
         ensures items { result.octets.items ≡ self.octets.items ++ octets
             (told rules party.leg party.alerts other.alerts other.number) }
-        ensures len { length result.octets.items ≤ length self.octets.items + 25 }
+        ensures len { length result.octets.items ≤ length self.octets.items + 26 }
     {
         let leg = party.leg;
         let number = other.number;
-        let record = match (rules, party.alerts, other.alerts) {
-            (RuleSet::American, true, _) => return self,
-            (RuleSet::European, true, _) => tell_record(
-                leg,
-                Notify,
-                TransferredActive,
-                number,
-                false,
-            ),
-            (_, false, true) => tell_record(leg, Facility, TransferredAlerting, unknown(), true),
-            (_, false, false) => tell_record(leg, Facility, TransferredActive, number, true),
-        };
-        self.with(&record)
+        if party.alerts {
+            return match rules {
+                RuleSet::European => self.tell(leg, Notify, TransferredActive, number, false),
+                RuleSet::American => self,
+            };
+        }
+        if other.alerts {
+            return self.tell(leg, Facility, TransferredAlerting, unknown(), true);
+        }
+        self.tell(leg, Facility, TransferredActive, number, true)
+    }
+
+    // With what an answer tells a leg of the other's number.
+    fn answered(self, leg: u32, number: TellNumber) -> Out
+        requires { length self.octets.items ≤ 102 }
+        ensures items { result.octets.items ≡ self.octets.items
+            ++ octets (Tell leg facility transferred_active number 0 ∷ []) }
+        ensures len { length result.octets.items ≤ length self.octets.items + 26 }
+    {
+        self.tell(leg, Facility, TransferredActive, number, false)
     }
 }
 
@@ -256,15 +316,15 @@ pub fn gone(leg: u32) -> Out
 }
 
 // What an answer tells the partner and, by American rules, after that the leg that answers, each of the other's number.
-#[tactic(auto, unfolding(crate::specs::Code::Writing::rendered, rules::specs::Replies::octets))]
+#[tactic(auto, using(rules::proofs::Lengths::no_octets, rules::proofs::Lengths::two_octets), unfolding(crate::specs::Code::Writing::rendered))]
 pub fn answer_told(rules: RuleSet, answering: NumberedLeg, partner: NumberedLeg) -> Out
     ensures { result ≡ rendered (Tell partner.leg facility transferred_active answering.number 0
         ∷ answering_party_told rules answering.leg partner.number) }
 {
-    let told = nothing().with(&answered_record(partner.leg, answering.number));
+    let told = nothing().answered(partner.leg, answering.number);
     match rules {
         RuleSet::European => told,
-        RuleSet::American => told.with(&answered_record(answering.leg, partner.number)),
+        RuleSet::American => told.answered(answering.leg, partner.number),
     }
 }
 
@@ -281,11 +341,10 @@ pub fn pass_on(partner: u32, count: u8, component: [u8; 64]) -> Out
 pub fn inform_told(leg: u32, indication: Indication, number: TellNumber) -> Out
     ensures { result ≡ rendered (inform_record leg indication number ∷ []) }
 {
-    let record = match indication {
-        Indication::Alerting => tell_record(leg, Notify, TransferredAlerting, unknown(), false),
-        Indication::Active => tell_record(leg, Facility, TransferredActive, number, true),
-    };
-    nothing().with(&record)
+    match indication {
+        Indication::Alerting => nothing().tell(leg, Notify, TransferredAlerting, unknown(), false),
+        Indication::Active => nothing().tell(leg, Facility, TransferredActive, number, true),
+    }
 }
 
 // The records of a transfer, the Reply on the reference of the event.

@@ -16,9 +16,11 @@ zeros_each zero (d ∷ ds) h = absurd (omega (arith, h))
 zeros_each (suc n) [] h = absurd (omega (arith, h))
 zeros_each (suc n) (d ∷ ds) h = ap (λ (b : Bool). eqb d 0 && b) (zeros_each n ds (omega (arith, h)))
 
-pub zero_is : (n : PartyNumber) → length n.digits ≡ 15 → (eqb n.presentation 0 && (eqb n.count 0 && pointwise eqb n.digits (replicate 15 0))) ≡ zero_number n
-zero_is n h = rw (h, zeros_each 15 n.digits h) (go (eqb n.presentation 0))
+pub zero_is : (n : PartyNumber) → length n.digits ≡ 15 →
+    (eqb n.presentation 0 && (eqb n.type_of_number 0 && (eqb n.count 0 && pointwise eqb n.digits (replicate 15 0)))) ≡ zero_number n
+zero_is n h = rw (h, zeros_each 15 n.digits h) (go (eqb n.presentation 0) (eqb n.type_of_number 0))
   where
-    go : (a : Bool) → (a && (eqb n.count 0 && zeros n.digits)) ≡ ((a && eqb n.count 0) && zeros n.digits)
-    go true = refl
-    go false = refl
+    go : (a b : Bool) → (a && (b && (eqb n.count 0 && zeros n.digits))) ≡ ((a && b && eqb n.count 0) && zeros n.digits)
+    go true true = refl
+    go true false = refl
+    go false b = refl

@@ -21,7 +21,7 @@ use Rattle.rules.specs.Checks.{BoardChange, decide, Decision, returned_by, chang
 use Rattle.events.specs.Refusals.{refusal_number}
 use Rattle.events.specs.Records.{body_length}
 use Rattle.board.specs.States.{direction_with, auxiliary_with}
-use Rattle.events.specs.EventRecords.{request, ranged, Request, in_range, Malformed, sized, open_body, progress_body, field, hold_body, Release, facility_body, Answer, leg_facility_body, inform_body}
+use Rattle.events.specs.EventRecords.{request, ranged, Request, in_range, Malformed, sized, open_body, typed_number_in, untyped_number_in, progress_body, field, hold_body, Release, facility_body, Answer, leg_facility_body, inform_body}
 use Rattle.rules.specs.History.{returns, Event, stepped, board_at, book_at, book_returns, booked}
 use Rattle.rules.specs.Step.{decision, board_after, rows_after, Outcome, refused, step, step_tested, done}
 use Rattle.events.specs.declared.Refusal.TheVariants.{FieldOutOfRange, WrongLength, BufferTooSmall, UnsoundBoard}
@@ -59,14 +59,15 @@ request_In : (os : List ℕ) → In (request os)
 unfolding request
 request_In [] = is_in refl
 request_In (k ∷ b) =
-    either_in (eqb k 1) (sized_in 1 b (open_body b (direction_with (get_or b 6 0))))
+    either_in (eqb k 1) (sized_in 1 b (open_body b (untyped_number_in b) (direction_with (get_or b 6 0))))
     (either_in (eqb k 2) (sized_in 2 b (progress_body (field 0 2 b) (get_or b 2 0)))
     (either_in (eqb k 3) (sized_in 3 b (hold_body (field 0 2 b) (auxiliary_with (get_or b 2 0))))
     (either_in (eqb k 4) (sized_in 4 b (Release (field 0 4 b)))
     (either_in (eqb k 5) (sized_in 5 b (facility_body (field 0 2 b) (get_or b 2 0) (drop 3 b)))
     (either_in (eqb k 6) (sized_in 6 b (Answer (field 0 4 b)))
     (either_in (eqb k 7) (sized_in 7 b (leg_facility_body b))
-    (either_in (eqb k 8) (sized_in 8 b (inform_body (field 0 2 b) (get_or b 2 0) (drop 3 b))) (is_in refl))))))))
+    (either_in (eqb k 8) (sized_in 8 b (inform_body (field 0 2 b) (get_or b 2 0) (drop 3 b)))
+    (either_in (eqb k 9) (sized_in 9 b (open_body b (typed_number_in b) (direction_with (get_or b 6 0)))) (is_in refl)))))))))
 
 pub request_in : (os : List ℕ) → in_range (request os) ≡ true
 request_in os = in_is (request_In os)

@@ -27,16 +27,16 @@ use Rattle.component.specs.declared.Reading.{Reading}
 use Rattle.component.specs.declared.Reading.TheVariants.{Ignored, Rejected, Invoked}
 use Rattle.subaddresses.specs.SubaddressTransfer.{is_subaddress_transfer}
 use Rattle.private_transfers.specs.EctInform.{EctInform, inform_in}
-use Rattle.rules.specs.Checks.{decide, Decision, Refuse, Accept, accept, opening, named, may_progress, may_hold, release_of, service_decision, decide_open, decide_progress, decide_hold, entry_at, decide_release, decide_facility, decide_alerting, decide_answer, decide_passing, decide_leg_facility, decide_informing, decide_inform}
+use Rattle.rules.specs.Checks.{decide, Decision, Refuse, Accept, accept, opening, named, may_progress, may_hold, release_of, service_decision, decide_open, decide_progress, decide_hold, entry_at, decide_release, decide_facility, decide_alerting, decide_answer, decide_passing, decide_leg_facility, decide_informing, decide_inform, written_by}
 use Rattle.rules.specs.History.{opens_leg, ends_leg}
 use Rattle.rules.specs.Replies.{Written, nothing, release_replies, answer_told, passed_on_record}
-use Rattle.rules.proofs.Lengths.{Short, nothing_short, reply_short, passed_short, inform_short}
+use Rattle.rules.proofs.Forms.{Writes, silent as silent_form, reply, of_transfer, of_release, of_answer, passed, informed}
 use Rattle.board.specs.declared.Change.TheVariants as change
 use Rattle.events.specs.Refusals.{refusal_number}
-use Rattle.events.specs.EventRecords.{Answer, Request, Open, Progress, Hold, Release, Facility, LegFacility, Inform, Malformed, in_range}
+use Rattle.events.specs.EventRecords.{Answer, Request, Open, Progress, Hold, Release, Facility, LegFacility, Inform, Malformed, in_range, valid_component}
 use Rattle.rules.specs.Serving.{Service, Silent, Respond, assign, AssignLinkId, partner_for, Transfer, execute, execute_explicitly, error, new_link_id, link_id_request, perform, is_served, serve}
 use Rattle.events.specs.declared.Refusal.{Refusal}
-use Rattle.octets.proofs.Lists.{filter_mem, only_mem, find_mem}
+use Rattle.octets.proofs.Lists.{filter_mem, only_mem, find_mem, eqb_eq, left}
 use Rattle.octets.specs.Lists.{only, filter, find, any}
 use Rattle.octets.specs.declared.IntegerOctets.{IntegerOctets}
 use Rattle.octets.specs.declared.LinkId.{LinkId}
@@ -115,7 +115,7 @@ module _ (opt : Options) (z : ℤ) (w : Bool) (es : List Entry) where
   pub data Decided : Request → Decision → Type 0 where
     refuses : {q : Request} (c : Refusal) → Decided q (Refuse c)
     -- an event that opens and ends no leg and changes nothing, whatever it writes
-    changes_nothing : {q : Request} {w : Written} → ((l : ℕ) → opens_leg l q ≡ false) → ((l : ℕ) → ends_leg es l q ≡ false) → (in_range q ≡ true → Short w) → Decided q (Accept None w)
+    changes_nothing : {q : Request} {w : Written} → ((l : ℕ) → opens_leg l q ≡ false) → ((l : ℕ) → ends_leg es l q ≡ false) → (in_range q ≡ true → Writes q w) → Decided q (Accept None w)
     opens_leg_lem : {r l : ℕ} {d : Direction} {n : PartyNumber} → any (has_leg l) es ≡ false → any (has_reference r) es ≡ false → w ≡ false →
         Decided (Open r l d n) (opening r l d n)
     sets_state : {r : ℕ} {s : CallState} {p : Party} → named r es ≡ Some p → may_progress p.call.state s ≡ true →
@@ -158,8 +158,8 @@ module _ (opt : Options) (z : ℤ) (w : Bool) (es : List Entry) where
   release_is l (Some x) e = let m = find_mem (has_leg l) es e in releases m.0 m.1
 
   service_is : (r : ℕ) (c : List ℕ) (p : Party) {v : Service} → Memᴰ p (calls es) → ComesTo opt z (calls es) p v → Decided (Facility r c) (service_decision opt p v)
-  service_is r c p m silent = changes_nothing (λ l. refl) (λ l. refl) (λ h. nothing_short)
-  service_is r c p m (respond a) = changes_nothing (λ l. refl) (λ l. refl) (λ h. reply_short p.call.reference.0 a)
+  service_is r c p m silent = changes_nothing (λ l. refl) (λ l. refl) (λ h. silent_form)
+  service_is r c p m (respond a) = changes_nothing (λ l. refl) (λ l. refl) (λ h. reply p.call.reference.0 a)
   service_is r c p m (assigned i e h) = assigns_link_id i m e h
   service_is r c p m (transferred i n h) = transfers i m n h
 
@@ -181,23 +181,23 @@ module _ (opt : Options) (z : ℤ) (w : Bool) (es : List Entry) where
   passing_is l n c (WithPartner p a) = go (is_subaddress_transfer (take n c))
     where
       go : (b : Bool) → Decided (LegFacility l n c) (cond b (Accept None (passed_on_record p n c)) (Refuse refusal.NoSuchInvoke))
-      go true = changes_nothing (λ m. refl) (λ m. refl) (passed_short p l n c)
+      go true = changes_nothing (λ m. refl) (λ m. refl) (λ h. passed p n c (eqb_eq (length c) 64 (left (eqb (length c) 64) (valid_component 64 n c) h)))
       go false = refuses _
 
   leg_facility_is : (l n : ℕ) (c : List ℕ) (o : Option Entry) → Decided (LegFacility l n c) (decide_leg_facility n c o)
   leg_facility_is l n c None = refuses _
   leg_facility_is l n c (Some e) = passing_is l n c e.connection
 
-  informing_is : (r : ℕ) (c : List ℕ) (l : ℕ) (o : Option EctInform) → Decided (Inform r c) (decide_informing l o)
-  informing_is r c l None = refuses _
-  informing_is r c l (Some i) = changes_nothing (λ m. refl) (λ m. refl) (λ h. inform_short l i)
+  informing_is : (r : ℕ) (c : List ℕ) (l : ℕ) (o : Option EctInform) → inform_in c ≡ o → Decided (Inform r c) (decide_informing l o)
+  informing_is r c l None e = refuses _
+  informing_is r c l (Some i) e = changes_nothing (λ m. refl) (λ m. refl) (λ h. informed l i refl e)
 
   inform_is : (r : ℕ) (c : List ℕ) (o : Option Party) → Decided (Inform r c) (decide_inform c o)
   inform_is r c None = refuses _
   inform_is r c (Some p) = go (active p.call)
     where
       go : (b : Bool) → Decided (Inform r c) (cond b (decide_informing p.leg (inform_in c)) (Refuse refusal.NotPermitted))
-      go true = informing_is r c p.leg (inform_in c)
+      go true = informing_is r c p.leg (inform_in c) refl
       go false = refuses _
 
   pub decided : (q : Request) → Decided q (decide opt z w es q)
@@ -211,3 +211,19 @@ module _ (opt : Options) (z : ℤ) (w : Bool) (es : List Entry) where
   decided (Answer l) = answer_is l (entry_at l es)
   decided (LegFacility l n c) = leg_facility_is l n c (entry_at l es)
   decided (Inform r c) = inform_is r c (named r es)
+
+  -- what it writes has one of the forms
+  pub writes_by : {q : Request} {d : Decision} → in_range q ≡ true → Decided q d → Writes q (written_by d)
+  writes_by k (refuses c) = silent_form
+  writes_by k (changes_nothing f g h) = h k
+  writes_by k (opens_leg_lem e f g) = silent_form
+  writes_by k (sets_state e h) = silent_form
+  writes_by k (sets_auxiliary e h) = silent_form
+  writes_by k (releases {e = e} m h) = of_release e.connection
+  writes_by k (assigns_link_id {p = p} {y = y} i m e h) = reply p.call.reference.0 (answer.LinkIdResult i (record { 0 = y }))
+  writes_by k (transfers {p = p} {o = q} i m n h) = of_transfer (rule_set opt) p.call.reference.0 i p q
+  writes_by k (ends_alerting {l = l} {p = p}) = of_answer (rule_set opt) l p
+
+  -- whatever the request
+  pub writes : (q : Request) → in_range q ≡ true → Writes q (written_by (decide opt z w es q))
+  writes q k = writes_by k (decided q)

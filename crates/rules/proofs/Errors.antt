@@ -22,7 +22,7 @@ use Rattle.component.specs.Answers.{answer_octets, filled}
 use Rattle.rules.specs.Checks.{Decision, Refuse, Accept, returned_by}
 use Rattle.events.specs.Refusals.{refusal_number}
 use Rattle.rules.specs.History.{Event, stepped}
-use Rattle.rules.specs.Replies.{told, TellNumber, error_record, Drop, number_at, octets, error_tag, Reply, ReplyRecord, error_octets, Tell, Gone, PassOn, transfer_replies, release_replies, answer_told}
+use Rattle.rules.specs.Replies.{told, TellNumber, error_record, Drop, number_at, octets, typed, typed_tell, untyped_tell, error_tag, Reply, ReplyRecord, error_octets, Tell, Gone, PassOn, transfer_replies, release_replies, answer_told}
 use Rattle.rules.proofs.Decided.{Decided, refuses, changes_nothing, opens_leg_lem, sets_state, sets_auxiliary, releases, assigns_link_id, transfers, ends_alerting, decided}
 use Rattle.rules.specs.Step.{board_after, rows_after, candidate_after, done, replies, refused, step, step_tested, Outcome, decision}
 use Rattle.octets.proofs.Lists.{true_not_false, neither, or_left}
@@ -109,7 +109,11 @@ pub octets_error : (rs : List ReplyRecord) → error_octets (octets rs) ≡ true
 unfolding octets
 octets_error [] h = absurd (true_not_false h refl)
 octets_error (Reply r a ∷ rs) h = or_left (error_tag (get_or (answer_octets a) 0 0)) (any error_record rs) (component_tag (answer_octets a) (octets rs) h)
-octets_error (Tell l m d n s ∷ rs) h = absurd (true_not_false h refl)
+octets_error (Tell l m d n s ∷ rs) h = absurd (true_not_false h (no_reply (typed n)))
+  where
+    no_reply : (b : Bool) → error_octets (cond b (typed_tell l m d n s) (untyped_tell l m d n s) ++ octets rs) ≡ false
+    no_reply true = refl
+    no_reply false = refl
 octets_error (Drop r ∷ rs) h = absurd (true_not_false h refl)
 octets_error (Gone l ∷ rs) h = absurd (true_not_false h refl)
 octets_error (PassOn l n c ∷ rs) h = absurd (true_not_false h refl)

@@ -16,7 +16,9 @@ use Rattle.rules.specs.Replies.{octets}
 use Rattle.rules.specs.Step.{step, step_tested, decision, rows_after, candidate_after, board_after, replies}
 use Rattle.rules.specs.Book.{fresh_book, book_rules, book_decision, book_after, book_step, entries_after, candidate_moves}
 use Rattle.rules.specs.History.{board_at, book_at, history, returns}
-use Rattle.rules.specs.Examples.{HistoryExamples, PassingExamples, InformingExamples}
+use Rattle.rules.specs.Examples.{HistoryExamples, PassingExamples, InformingExamples, TypedExamples}
+use Rattle.rules.specs.OldConsole.{met_from}
+use Rattle.component.specs.Answers.{answer_octets}
 
 pub history_examples : HistoryExamples
 unfolding first_element siblings whole_elements reading invoke_reading identified_reading sound sound_rows sound_entries valid_row fresh changed_rows row_after request calls_pair serve decide step step_tested decision rows_after candidate_after board_after replies fresh_book book_rules book_decision book_after book_step entries_after candidate_moves board_at book_at history returns
@@ -48,4 +50,17 @@ informing_examples = record {
   active_octets = refl;
   alerting_octets = refl;
   informed_board = refl;
+}
+
+pub typed_examples : TypedExamples
+unfolding first_element siblings whole_elements reading invoke_reading identified_reading behind_operation sound sound_rows sound_entries valid_row fresh changed_rows row_after request calls_pair serve decide step step_tested decision rows_after candidate_after board_after replies octets board_at returns met_from answer_octets
+typed_examples = record {
+  same_board = refl;
+  types = refl;
+  no_digits = refl;
+  international = refl;
+  unknown_type = refl;
+  withheld = refl;
+  old_console = refl;
+  kept_types = refl;
 }

@@ -12,7 +12,7 @@ use Rattle.octets.proofs.Lists.{true_not_false, left, right, both, is_true, from
 use Rattle.octets.specs.Lists.{any}
 use Rattle.private_transfers.specs.declared.Indication.{Indication}
 use Rattle.private_transfers.specs.declared.Indication.TheVariants.{Alerting, Active}
-use Rattle.private_transfers.specs.EctInform.{Number, EctInform, inform_in}
+use Rattle.private_transfers.specs.EctInform.{Number, NotSent, Restricted, Given, EctInform, inform_in}
 use Rattle.board.specs.declared.Board.{Board}
 use Rattle.board.specs.declared.Call.{Call}
 use Rattle.board.specs.declared.Party.{Party}
@@ -49,7 +49,9 @@ told_octets l Active n = active_tell l (number_as_received n)
 written_is : (l : ℕ) (i : Indication) (n : Number) → octets (inform_record l i (number_as_received n) ∷ []) ≡ told_octets l i n
 unfolding octets told_octets
 written_is l Alerting n = append-nil (alerting_tell l)
-written_is l Active n = append-nil (active_tell l (number_as_received n))
+written_is l Active NotSent = append-nil (active_tell l (number_as_received NotSent))
+written_is l Active Restricted = append-nil (active_tell l (number_as_received Restricted))
+written_is l Active (Given ds) = append-nil (active_tell l (number_as_received (Given ds)))
 
 module _ (b : Board) (body : List ℕ) (room : ℕ) where
   Holds : Outcome → Type 0

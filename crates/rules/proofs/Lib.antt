@@ -1,5 +1,6 @@
 -- The theorems about the rules, and the laws that they rest on.
 pub mod Lengths
+pub mod Forms
 pub mod Decided
 pub mod Order
 pub mod Kept
@@ -13,6 +14,7 @@ pub mod Errors
 pub mod SoundKept
 pub mod WholeHistory
 pub mod Room
+pub mod OldConsole
 pub mod Situations
 pub mod AmericanSituations
 pub mod SingleEvents

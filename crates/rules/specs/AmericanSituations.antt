@@ -20,7 +20,7 @@ abbrev pub open_with : ℕ → ℕ → List ℕ
 open_with r d = 1 ∷ 0 ∷ r ∷ 0 ∷ 0 ∷ 0 ∷ r ∷ 0 ∷ 0 ∷ 1 ∷ d ∷ replicate 14 0
 
 abbrev pub digit_told : ℕ → TellNumber
-digit_told d = given 1 (d ∷ replicate 14 0)
+digit_told d = given 0 1 (d ∷ replicate 14 0)
 
 -- call 1 Active, call 2 in state s, both Idle, each with a LinkId: 0 and 1
 unfoldable pub neither_held : ℕ → ℕ → Board

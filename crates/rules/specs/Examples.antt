@@ -1,14 +1,17 @@
 -- Two lists of events computed to their ends, beside the whole-history theorem: a transfer while the second party alerts;
--- the same, then its answer, then a release. Beside `passed_on`, the subaddress that this party sends, and, beside
--- `informed`, what a private exchange says of a call.
-use Rattle.std.specs.Prelude.{ℕ, ◌-◌, ◌≡◌, true, false, List, [], ◌∷◌, ◌++◌, map, length, replicate}
+-- the same, then its answer, then a release. Beside `passed_on`, the subaddress that this party sends, beside `informed`,
+-- what a private exchange says of a call, and, beside `old_console`, numbers with their types.
+use Rattle.std.specs.Prelude.{ℕ, ◌-◌, ◌≡◌, true, false, List, [], ◌∷◌, ◌++◌, map, length, take, drop, get_or, replicate}
 use Rattle.octets.specs.Lists.{any}
 use Rattle.board.specs.declared.Connection.TheVariants.{WithPartner}
 use Rattle.board.specs.declared.Entry.{Entry}
 use Rattle.board.specs.Entries.{entry, taken, is_joined}
 use Rattle.board.specs.Making.{fresh}
+use Rattle.board.specs.declared.Row.{Row}
 use Rattle.rules.specs.Book.{fresh_book}
 use Rattle.rules.specs.History.{Event, board_at, book_at, history, returns, stepped}
+use Rattle.rules.specs.AmericanSituations.{open_with}
+use Rattle.rules.specs.OldConsole.{met}
 use Rattle.rules.specs.Replies.{octets}
 use Rattle.rules.specs.Situations.{open_record, progress_record, hold_record, facility_record, ect_execute}
 
@@ -86,11 +89,12 @@ ect_inform i =
 abbrev pub inform : ℕ → List ℕ → Event
 inform r c = event (8 ∷ 0 ∷ r ∷ counted c)
 
--- a call that is Active, reference 3 and leg 7, whose party is restricted and has the digits 99; and one that is not
+-- a call that is Active, reference 3 and leg 7, whose party is restricted and has the digits 99, of type 1; and one that
+-- is not
 abbrev pub restricted_list : List Event
 restricted_list =
     map event
-    ((1 ∷ 0 ∷ 3 ∷ 0 ∷ 0 ∷ 0 ∷ 7 ∷ 0 ∷ 1 ∷ 2 ∷ 0x39 ∷ 0x39 ∷ replicate 13 0) ∷ progress_record 3 10 ∷ open_record 1 ∷ [])
+    ((9 ∷ 0 ∷ 3 ∷ 0 ∷ 0 ∷ 0 ∷ 7 ∷ 0 ∷ 1 ∷ 1 ∷ 2 ∷ 0x39 ∷ 0x39 ∷ replicate 13 0) ∷ progress_record 3 10 ∷ open_record 1 ∷ [])
 
 pub record InformingExamples : Type 0 where
   -- active, alerting; no such call, a call that is not Active, a component that is no such invoke
@@ -110,3 +114,47 @@ pub record InformingExamples : Type 0 where
   pub informed_board :
       taken (board_at (fresh 0 0).board (restricted_list ++ (inform 3 (ect_inform 1) ∷ []))).rows
       ≡ taken (board_at (fresh 0 0).board restricted_list).rows
+
+-- ---- types of number
+
+-- reference and leg r, outgoing, the digit 9, as event 9; as event 1 it is `open_with r 0x39`
+abbrev pub typed_open : ℕ → ℕ → ℕ → List ℕ
+typed_open r presentation t = 9 ∷ 0 ∷ r ∷ 0 ∷ 0 ∷ 0 ∷ r ∷ 0 ∷ presentation ∷ t ∷ 1 ∷ 0x39 ∷ replicate 14 0
+
+-- two calls, Active, the first held, its number of type t, the other's of type 0; EctExecute on it
+abbrev pub typed_transfer : ℕ → ℕ → List Event
+typed_transfer presentation t =
+    map event
+    (typed_open 1 presentation t ∷ open_with 2 0x39 ∷ progress_record 1 10 ∷ progress_record 2 10
+    ∷ hold_record 1 1 ∷ hold_record 1 2 ∷ [])
+
+-- what the transfer tells the two parties, behind the Reply and the Drops
+abbrev pub told_by_transfer : ℕ → ℕ → List ℕ
+told_by_transfer presentation t =
+    drop 42
+    (octets (stepped (board_at (fresh 1 0).board (typed_transfer presentation t)) (event (facility_record ect_execute 1))).replies)
+
+-- to leg 1 the other's digit, of type 0
+abbrev pub told_1 : List ℕ
+told_1 = 0x82 ∷ 0 ∷ 0 ∷ 0 ∷ 1 ∷ 0 ∷ 0xEA ∷ 1 ∷ 1 ∷ 1 ∷ 0x39 ∷ replicate 14 0
+
+pub record TypedExamples : Type 0 where
+  -- "event 1 means type 0"
+  pub same_board :
+      board_at (fresh 0 0).board (event (typed_open 1 0 0) ∷ []) ≡ board_at (fresh 0 0).board (event (open_with 1 0x39) ∷ [])
+  -- "a type of number (0 unknown, 1 international, 2 national)"
+  pub types : returns (fresh 0 0).board (event (typed_open 1 0 2) ∷ event (typed_open 2 0 3) ∷ []) ≡ 0 ∷ 5 ∷ []
+  -- a type without digits
+  pub no_digits : returns (fresh 0 0).board (event (9 ∷ 0 ∷ 1 ∷ 0 ∷ 0 ∷ 0 ∷ 1 ∷ 0 ∷ 0 ∷ 2 ∷ 0 ∷ replicate 15 0) ∷ []) ≡ 0 ∷ []
+  -- "A Tell whose number is given with type 1 or 2 is record 0x86 (type octet before the digit count ..)"
+  pub international : told_by_transfer 0 1 ≡ told_1 ++ (0x86 ∷ 0 ∷ 0 ∷ 0 ∷ 2 ∷ 0 ∷ 0xEA ∷ 1 ∷ 1 ∷ 1 ∷ 1 ∷ 0x39 ∷ replicate 14 0)
+  -- "all others stay 0x82": of type 0, or withheld
+  pub unknown_type : told_by_transfer 0 0 ≡ told_1 ++ (0x82 ∷ 0 ∷ 0 ∷ 0 ∷ 2 ∷ 0 ∷ 0xEA ∷ 1 ∷ 1 ∷ 1 ∷ 0x39 ∷ replicate 14 0)
+  pub withheld : told_by_transfer 1 2 ≡ told_1 ++ (0x82 ∷ 0 ∷ 0 ∷ 0 ∷ 2 ∷ 0 ∷ 0xEA ∷ 2 ∷ 1 ∷ 0 ∷ replicate 15 0)
+  -- a console of the old kind meets all but the last record
+  pub old_console : map (λ (m : List ℕ). get_or m 0 0) (met (told_by_transfer 0 1)) ≡ 0x82 ∷ []
+  -- a transfer keeps the types
+  pub kept_types :
+      map (λ (r : Row). r.number.type_of_number)
+      (take 3 (board_at (fresh 1 0).board (typed_transfer 0 1 ++ (event (facility_record ect_execute 1) ∷ []))).rows)
+      ≡ 1 ∷ 0 ∷ 0 ∷ []

@@ -8,6 +8,7 @@ pub mod Book
 pub mod History
 pub mod Situations
 pub mod AmericanSituations
+pub mod OldConsole
 pub mod Examples
 pub mod SingleEvents
 pub mod PassedOn

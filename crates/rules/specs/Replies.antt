@@ -23,7 +23,7 @@ use Rattle.private_transfers.specs.EctInform.{Number, NotSent, Restricted, Given
 -- a number as it is told
 pub use Rattle.rules.specs.declared.TellNumber.{TellNumber}
 
--- a Reply's reference is the event's; a Tell has leg, message, description, number, subaddress request
+-- a Reply's reference is the event's; a Tell, of either kind, has leg, message, description, number, subaddress request
 pub data ReplyRecord : Type 0 where
   Reply : (reference : ℕ) → Answer → ReplyRecord
   Tell : (leg message description : ℕ) → TellNumber → (request : ℕ) → ReplyRecord
@@ -32,12 +32,24 @@ pub data ReplyRecord : Type 0 where
   -- count and octets are the event's
   PassOn : (leg count : ℕ) (octets : List ℕ) → ReplyRecord
 
+-- "A Tell whose number is given with type 1 or 2" (document 02, slip 8); given is mark 1
+abbrev pub typed : TellNumber → Bool
+typed n = eqb n.mark 1 && (eqb n.type_of_number 1 || eqb n.type_of_number 2)
+
+-- "all others stay 0x82"
+abbrev pub untyped_tell : (leg message description : ℕ) → TellNumber → (request : ℕ) → List ℕ
+untyped_tell l m d n s = 0x82 ∷ (four l ++ (m ∷ d ∷ n.mark ∷ s ∷ n.count ∷ n.digits))
+
+-- "is record 0x86 (type octet before the digit count, body 25)"
+abbrev pub typed_tell : (leg message description : ℕ) → TellNumber → (request : ℕ) → List ℕ
+typed_tell l m d n s = 0x86 ∷ (four l ++ (m ∷ d ∷ n.mark ∷ s ∷ n.type_of_number ∷ n.count ∷ n.digits))
+
 -- "0x81 Reply (35): the event's reference 2, count 1, component in 32 octets, zero filled. 0x82 Tell (24): leg 4,
 -- message 1, description 1, number mark 1, subaddress request 1, digit count 1, digits 15. 0x83 Drop (2): reference.
 -- 0x84 Gone (4): leg."
 abbrev pub record_octets : ReplyRecord → List ℕ
 record_octets (Reply r a) = 0x81 ∷ (two r ++ (length (answer_octets a) ∷ filled (answer_octets a)))
-record_octets (Tell l m d n s) = 0x82 ∷ (four l ++ (m ∷ d ∷ n.mark ∷ s ∷ n.count ∷ n.digits))
+record_octets (Tell l m d n s) = cond (typed n) (typed_tell l m d n s) (untyped_tell l m d n s)
 record_octets (Drop r) = 0x83 ∷ two r
 record_octets (Gone l) = 0x84 ∷ four l
 -- "reply record 0x85 with the same layout", which is "leg 4, count 1 .., component, zeros" (document 02, slip 5)
@@ -52,15 +64,15 @@ octets (r ∷ rs) = record_octets r ++ octets rs
 -- ---- "Digits appear only with 1; else digit count and digits are zero."
 
 abbrev pub mark_only : ℕ → TellNumber
-mark_only m = record { mark = m; count = 0; digits = replicate 15 0 }
+mark_only m = record { mark = m; type_of_number = 0; count = 0; digits = replicate 15 0 }
 
-abbrev pub given : ℕ → List ℕ → TellNumber
-given n ds = record { mark = 1; count = n; digits = ds }
+abbrev pub given : ℕ → ℕ → List ℕ → TellNumber
+given t n ds = record { mark = 1; type_of_number = t; count = n; digits = ds }
 
 abbrev pub number_as_told : PartyNumber → TellNumber
 number_as_told n =
     cond (eqb n.count 0) (mark_only 0)
-    (cond (eqb n.presentation 1) (mark_only 2) (given n.count n.digits))
+    (cond (eqb n.presentation 1) (mark_only 2) (given n.type_of_number n.count n.digits))
 
 abbrev pub number_of_row : Option Row → TellNumber
 number_of_row None = mark_only 0
@@ -70,11 +82,11 @@ number_of_row (Some r) = number_as_told r.number
 abbrev pub number_at : List Row → ℕ → TellNumber
 number_at rows l = number_of_row (find (λ (r : Row). eqb l r.leg && occupied r.standing) rows)
 
--- "given, withheld for 81 00, else mark 0" (document 02, slip 6)
+-- "given, withheld for 81 00, else mark 0" (document 02, slip 6); "a number from event 8 has type 0" (slip 8)
 abbrev pub number_as_received : Number → TellNumber
 number_as_received NotSent = mark_only 0
 number_as_received Restricted = mark_only 2
-number_as_received (Given ds) = given (length ds) (in_fifteen ds)
+number_as_received (Given ds) = given 0 (length ds) (in_fifteen ds)
 
 -- ---- what the far parties are told
 

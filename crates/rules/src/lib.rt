@@ -23,13 +23,14 @@ pub enum Service {
     },
 }
 
-// A number as it is told: its mark, which is no presentation as a `PartyNumber` has it, and its digits only where the
-// mark is 1.
+// A number as it is told: its mark, which is no presentation as a `PartyNumber` has it, and its type and digits only
+// where the mark is 1.
 // The mark is an octet and the count stands beside 15 octets, as in the record: a caller may have any number told, and
 // kinds of marks or a bound on the count would ask more of it.
 #[derive(Clone, Copy)]
 pub struct TellNumber {
     pub mark: u8,
+    pub type_of_number: u8,
     pub count: u8,
     pub digits: [u8; 15],
 }

@@ -19,7 +19,7 @@ use Rattle.board.specs.declared.finding.Key.TheVariants as key
 
 -- what lies past the end of the rows
 abbrev pub no_row : Row
-no_row = record { leg = 0; number = record { presentation = 0; count = 0; digits = [] }; standing = Empty }
+no_row = record { leg = 0; number = record { presentation = 0; type_of_number = 0; count = 0; digits = [] }; standing = Empty }
 
 -- what the rules look up is that of the row found
 found_lem : {A : Type 0} (f : Row → Option A) (k : Key) (rows : List Row) {o : Option A} {row : Option Row} → o ≡ value_at f no_row rows (place_from (matches_key k) 0 rows) →

@@ -6,6 +6,7 @@ use crate::component::Operation;
 use crate::informs::inform;
 use crate::legs::leg_facility;
 use crate::odd;
+use crate::opens;
 use crate::records;
 use crate::script::Script;
 
@@ -155,32 +156,16 @@ fn odd_component(script: &mut Script) {
 /// A record with one field outside its range; the reference may be in use or not.
 fn bad_field(script: &mut Script) {
     let reference = script.pick_call().map_or(Reference(5), |call| call.reference);
-    let mut record = match script.rng.below(4) {
-        0 => bad_open(script),
-        1 => records::progress(reference, script.rng.octet()),
-        2 => records::hold(reference, script.rng.within(4, 255) as u8),
+    let mut record = match script.rng.below(5) {
+        0 | 1 => opens::bad(script),
+        2 => records::progress(reference, script.rng.octet()),
+        3 => records::hold(reference, script.rng.within(4, 255) as u8),
         _ => bad_facility(script, reference),
     };
     if script.rng.percent(20) {
         record[1..3].copy_from_slice(&script.rng.pick(&[[0, 0], [0x80, 0]]));
     }
     script.put(&record);
-}
-
-fn bad_open(script: &mut Script) -> Vec<u8> {
-    let (reference, leg) = (script.fresh_reference(), script.fresh_leg());
-    let leg = script.pick_leg().filter(|_| script.rng.percent(30)).unwrap_or(leg);
-    let digits = script.digits();
-    let mut record = records::open(reference, leg, 0, 0, &digits);
-    let first = 10;
-    match script.rng.below(5) {
-        0 => record[7] = script.rng.within(2, 255) as u8,
-        1 => record[8] = script.rng.within(2, 255) as u8,
-        2 => record[9] = script.rng.within(16, 255) as u8,
-        3 => record[first] = script.rng.pick(&[0x2F, 0x3A, 0xB1, 0x01, 0xFF]),
-        _ => record[first + script.rng.below(15)] = script.rng.pick(&[0x30, 0x01, 0x80, 0x00]),
-    }
-    record
 }
 
 fn bad_facility(script: &mut Script, reference: Reference) -> Vec<u8> {
@@ -197,7 +182,7 @@ fn bad_facility(script: &mut Script, reference: Reference) -> Vec<u8> {
 fn stray(script: &mut Script) {
     let absent = script.absent_reference();
     let record = match script.rng.below(9) {
-        0 | 1 => taken_open(script),
+        0 | 1 => opens::taken(script),
         2 => records::progress(absent, script.rng.pick(&[4, 10])),
         3 => records::hold(absent, script.rng.below(4) as u8),
         4 => records::facility(absent, &odd::component(script)),
@@ -207,20 +192,6 @@ fn stray(script: &mut Script) {
         _ => not_permitted(script),
     };
     script.put(&record);
-}
-
-/// An Open whose leg or reference, or both, are on the board.
-fn taken_open(script: &mut Script) -> Vec<u8> {
-    let mut leg = script.fresh_leg();
-    let mut reference = script.fresh_reference();
-    let which = script.rng.below(3);
-    if which != 0 {
-        leg = script.pick_leg().unwrap_or(leg);
-    }
-    if which != 1 {
-        reference = script.pick_call().map_or(reference, |call| call.reference);
-    }
-    records::open(reference, leg, 0, 0, b"123")
 }
 
 fn not_permitted(script: &mut Script) -> Vec<u8> {

@@ -168,9 +168,13 @@ fn answer(moment: &Moment) -> Result<Due, String> {
 
 /// A Tell by FACILITY, with the number of the row's party where there is a row.
 fn tell(leg: u32, description: u8, about: Option<&Row>, request: u8) -> Vec<u8> {
-    let (presentation, number) = about.map_or((0, [0; 16]), |row| (row.presentation, row.number.0));
-    let mark = if number[0] == 0 { 0 } else { 1 + presentation };
-    let mut octets = [&[0x82], &leg.to_be_bytes()[..], &[0, description, mark, request]].concat();
-    octets.extend(if mark == 1 { number } else { [0; 16] });
+    let row = about.unwrap_or(&Row::EMPTY);
+    let mark = if row.number.0[0] == 0 { 0 } else { 1 + row.presentation };
+    let kind = if mark == 1 && row.number_type > 0 { 0x86 } else { 0x82 };
+    let mut octets = [&[kind], &leg.to_be_bytes()[..], &[0, description, mark, request]].concat();
+    if kind == 0x86 {
+        octets.push(row.number_type);
+    }
+    octets.extend(if mark == 1 { row.number.0 } else { [0; 16] });
     octets
 }

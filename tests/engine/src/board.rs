@@ -7,6 +7,10 @@ pub const MAX_LIVE: usize = 16;
 pub const OUTGOING: u8 = 0;
 pub const INCOMING: u8 = 1;
 pub const RESTRICTED: u8 = 1;
+/// Types of number. There are no others.
+pub const UNKNOWN: u8 = 0;
+pub const INTERNATIONAL: u8 = 1;
+pub const NATIONAL: u8 = 2;
 
 /// A call reference. Never mixed up with a LinkId, which is signed.
 #[derive(Clone, Copy, PartialEq, Eq, Hash, Debug)]
@@ -136,19 +140,27 @@ pub struct Row {
     pub leg: u32,
     pub standing: Standing,
     pub presentation: u8,
+    pub number_type: u8,
     pub number: Number,
 }
 
 impl Row {
-    pub const EMPTY: Row = Row { leg: 0, standing: Standing::Empty, presentation: 0, number: Number::NONE };
+    pub const EMPTY: Row = Row {
+        leg: 0,
+        standing: Standing::Empty,
+        presentation: 0,
+        number_type: UNKNOWN,
+        number: Number::NONE,
+    };
 
     /// What an empty row must hold besides its standing.
     pub fn blank(&self) -> bool {
-        self.leg == 0 && self.presentation == 0 && u128::from_le_bytes(self.number.0) == 0
+        (self.leg, self.presentation, self.number_type) == (0, 0, UNKNOWN)
+            && u128::from_le_bytes(self.number.0) == 0
     }
 
     pub fn party_sound(&self) -> bool {
-        self.presentation <= RESTRICTED && self.number.sound()
+        self.presentation <= RESTRICTED && self.number_type <= NATIONAL && self.number.sound()
     }
 
     pub fn call(&self) -> Option<&Call> {

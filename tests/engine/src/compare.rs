@@ -1,9 +1,12 @@
 //! Comparing another player's text with the engine's, octet by octet.
 
 use crate::logs::{Logs, CYCLES, LEAST_EVENTS};
+use crate::moved;
+use crate::near_move;
 use crate::notice::{watch, Fault};
 use crate::play::{next_record, play, start};
 use crate::program::{Feed, Program};
+use crate::rng::Rng;
 use crate::tally::Tally;
 
 /// So many logs, those after the long ones, are fed in small parts too.
@@ -37,8 +40,9 @@ fn shown(line: Option<&[u8]>) -> String {
 /// Plays all logs of a seed through the engine alone.
 pub fn engine_alone(seed: u64) -> Result<Tally, String> {
     let mut tally = Tally::default();
+    let mut rng = Rng::new(seed);
     for log in Logs::new(seed) {
-        watched(&log, &mut tally)?;
+        watched(&log, &mut rng, &mut tally)?;
     }
     finished(&tally)?;
     Ok(tally)
@@ -48,9 +52,9 @@ pub fn engine_alone(seed: u64) -> Result<Tally, String> {
 pub fn against(path: &str, seed: u64) -> Result<Tally, String> {
     let program = Program::new(path, &[]);
     let mut tally = Tally::default();
-    let mut expected = Vec::new();
+    let (mut rng, mut expected) = (Rng::new(seed), Vec::new());
     for (number, log) in Logs::new(seed).enumerate() {
-        watched(&log, &mut tally)?;
+        watched(&log, &mut rng, &mut tally)?;
         expected.clear();
         play(&log, &mut expected);
         same(&program, &log, Feed::Whole, &expected)?;
@@ -63,12 +67,19 @@ pub fn against(path: &str, seed: u64) -> Result<Tally, String> {
     Ok(tally)
 }
 
-/// Watches a log; a fault is told with the log as far as its event.
-fn watched(log: &[u8], tally: &mut Tally) -> Result<(), String> {
+/// Watches a log as it is played and as it is moved, and moves one made from it.
+fn watched(log: &[u8], rng: &mut Rng, tally: &mut Tally) -> Result<(), String> {
+    // A fault is told with the log as far as its event.
     watch(log, tally).map_err(|Fault { event, what }| {
         let log = hex(up_to(log, event));
         format!("log {log}\nevent {event} of the engine is at fault\n{what}")
-    })
+    })?;
+    let near = near_move::log(rng, log);
+    for log in [log, near.as_slice()] {
+        let fault = |what| format!("log {}\nthe engine is at fault\n{what}", hex(log));
+        moved::watch(log, rng, tally).map_err(fault)?;
+    }
+    Ok(())
 }
 
 fn same(program: &Program, log: &[u8], feed: Feed, expected: &[u8]) -> Result<(), String> {
@@ -92,11 +103,7 @@ fn up_to(log: &[u8], records: usize) -> &[u8] {
 
 /// A run counts only if every occurrence was met and the events are many enough.
 fn finished(tally: &Tally) -> Result<(), String> {
-    let missing = tally.missing();
-    if !missing.is_empty() {
-        tally.print();
-        return Err(format!("never met: {}", missing.join("; ")));
-    }
+    tally.all_met()?;
     if tally.events < LEAST_EVENTS {
         return Err(format!("only {} events", tally.events));
     }

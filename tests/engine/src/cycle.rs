@@ -3,6 +3,7 @@
 use crate::actions::pair;
 use crate::board::{Aux, CallState, LinkId, Reference, OUTGOING};
 use crate::component::Operation;
+use crate::opens::Opens;
 use crate::records;
 use crate::rng::Rng;
 use crate::script::Script;
@@ -15,8 +16,8 @@ const EDGES: [i16; 4] = [127, 128, -32768, -129];
 const GIVEN: usize = 65_536 + 400;
 
 /// By European rules with the option 1, by American with 3.
-pub fn log(rng: &mut Rng, alerting: u8) -> Vec<u8> {
-    let mut script = Script::new(rng, 1, alerting);
+pub fn log(rng: &mut Rng, alerting: u8, opens: Opens) -> Vec<u8> {
+    let mut script = Script { opens, ..Script::new(rng, 1, alerting) };
     let mut given = 0;
     while given < GIVEN {
         given += round(&mut script);

@@ -1,11 +1,13 @@
 //! Damage to whole logs.
 
 use crate::carrier::Carrier;
+use crate::event::OPEN_TYPED;
+use crate::records::TYPE_AT;
 use crate::rng::Rng;
 
 /// Damages a log in one way; `starts` says where its records begin.
 pub fn damage(rng: &mut Rng, log: &mut Vec<u8>, starts: &[usize]) {
-    match rng.below(8) {
+    match rng.below(9) {
         0 => flip_bits(rng, log),
         1 => cut_tail(rng, log, starts),
         2 => wrong_kind(rng, log, starts),
@@ -13,6 +15,7 @@ pub fn damage(rng: &mut Rng, log: &mut Vec<u8>, starts: &[usize]) {
         4 => listed_kind(rng, log, starts),
         5 => bad_options(rng, log),
         6 => end_at_carrier(rng, log, starts),
+        7 => end_at_open(rng, log, starts),
         _ => noise(rng, log),
     }
 }
@@ -45,14 +48,34 @@ fn end_at_carrier(rng: &mut Rng, log: &mut Vec<u8>, starts: &[usize]) {
         1 | 2 => log.truncate(start + length - 1),
         _ => {
             log.truncate(start + length);
-            log.push(rng.below(9) as u8);
+            log.push(rng.below(10) as u8);
         }
+    }
+}
+
+/// Ends the log at an Open with a type: after its kind, around the type, at times a wrong one, one
+/// octet short of its end, or one beyond it.
+fn end_at_open(rng: &mut Rng, log: &mut Vec<u8>, starts: &[usize]) {
+    let typed = |start: &usize| log[*start] == OPEN_TYPED;
+    let opens: Vec<usize> = starts.iter().copied().filter(typed).collect();
+    if opens.is_empty() {
+        return cut_tail(rng, log, starts);
+    }
+    let start = rng.pick(&opens);
+    let place = rng.within(1, 25);
+    let length = rng.pick(&[1, TYPE_AT, TYPE_AT + 1, 25, place, 26]);
+    if length > TYPE_AT && length < 26 && rng.percent(25) {
+        log[start + TYPE_AT] = rng.pick(&[3, 255]);
+    }
+    log.truncate(start + length);
+    if length == 26 {
+        log.push(rng.below(10) as u8);
     }
 }
 
 /// An unlisted kind at a record, or as the last octet of the log.
 fn wrong_kind(rng: &mut Rng, log: &mut Vec<u8>, starts: &[usize]) {
-    let kind = rng.pick(&[0, 10, 11, 0x81, 0x85, 0xFF]);
+    let kind = rng.pick(&[0, 10, 11, 0x81, 0x86, 0xFF]);
     if starts.is_empty() || rng.percent(20) {
         log.push(kind);
     } else {
@@ -63,7 +86,7 @@ fn wrong_kind(rng: &mut Rng, log: &mut Vec<u8>, starts: &[usize]) {
 /// Another listed kind: from there on the records are read at the wrong places.
 fn listed_kind(rng: &mut Rng, log: &mut [u8], starts: &[usize]) {
     if !starts.is_empty() {
-        log[rng.pick(starts)] = rng.within(1, 8) as u8;
+        log[rng.pick(starts)] = rng.within(1, 9) as u8;
     }
 }
 
@@ -101,7 +124,7 @@ fn bad_second(rng: &mut Rng) -> u8 {
 fn noise(rng: &mut Rng, log: &mut Vec<u8>) {
     log.truncate(2);
     for _ in 0..rng.within(1, 200) {
-        let octet = if rng.percent(50) { rng.below(9) as u8 } else { rng.octet() };
+        let octet = if rng.percent(50) { rng.below(10) as u8 } else { rng.octet() };
         log.push(octet);
     }
 }

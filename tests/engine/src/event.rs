@@ -1,6 +1,7 @@
 //! Event records and what each of them does.
 
-use crate::board::{Aux, Board, Call, CallState, Number, Reference, Row, Standing, INCOMING};
+use crate::board::{Aux, Board, Call, CallState, Number, Reference, Row, Standing};
+use crate::board::{INCOMING, NATIONAL, UNKNOWN};
 use crate::carried::{inform, pass_on};
 use crate::index::Index;
 use crate::lookup::{Lookup, Walk};
@@ -16,6 +17,7 @@ pub const FACILITY: u8 = 5;
 pub const ANSWER: u8 = 6;
 pub const LEG_FACILITY: u8 = 7;
 pub const INFORM: u8 = 8;
+pub const OPEN_TYPED: u8 = 9;
 
 /// What an event returns: 0 and the octets written, or a refusal and 0.
 #[derive(Clone, Copy, PartialEq, Eq, Debug)]
@@ -26,14 +28,41 @@ pub struct Answer {
 
 #[derive(Clone, Copy, PartialEq, Eq, Debug)]
 pub enum Event<'a> {
-    Open { reference: Reference, leg: u32, direction: u8, presentation: u8, number: Number },
-    Progress { reference: Reference, state: CallState },
-    Hold { reference: Reference, aux: Aux },
-    Release { leg: u32 },
-    Facility { reference: Reference, component: &'a [u8] },
-    Answer { leg: u32 },
-    LegFacility { leg: u32, component: &'a [u8] },
-    Inform { reference: Reference, component: &'a [u8] },
+    /// Of either kind, which come to the same.
+    Open {
+        reference: Reference,
+        leg: u32,
+        direction: u8,
+        presentation: u8,
+        number_type: u8,
+        number: Number,
+    },
+    Progress {
+        reference: Reference,
+        state: CallState,
+    },
+    Hold {
+        reference: Reference,
+        aux: Aux,
+    },
+    Release {
+        leg: u32,
+    },
+    Facility {
+        reference: Reference,
+        component: &'a [u8],
+    },
+    Answer {
+        leg: u32,
+    },
+    LegFacility {
+        leg: u32,
+        component: &'a [u8],
+    },
+    Inform {
+        reference: Reference,
+        component: &'a [u8],
+    },
 }
 
 /// The octets that follow a listed kind.
@@ -45,6 +74,7 @@ pub fn body_length(kind: u8) -> Option<usize> {
         FACILITY => Some(35),
         LEG_FACILITY => Some(69),
         INFORM => Some(67),
+        OPEN_TYPED => Some(25),
         _ => None,
     }
 }
@@ -58,7 +88,7 @@ impl Event<'_> {
             return Err(3);
         }
         let event = match (kind, body) {
-            (OPEN, body) => read_open(body),
+            (OPEN | OPEN_TYPED, body) => read_open(body),
             (PROGRESS, &[high, low, state]) => read_progress(high, low, state),
             (HOLD, &[high, low, aux]) => read_hold(high, low, aux),
             (FACILITY, body) => {
@@ -83,14 +113,16 @@ fn reference(high: u8, low: u8) -> Option<Reference> {
     Some(Reference(u16::from_be_bytes([high, low]))).filter(|reference| reference.valid())
 }
 
+/// Of either kind: where no octet says the type of number, it is unknown.
 fn read_open(body: &[u8]) -> Option<Event<'_>> {
-    let &[high, low, a, b, c, d, direction, presentation, ref number @ ..] = body else { return None };
-    let number = Number(number.try_into().ok()?);
-    let reference = reference(high, low)?;
-    if direction > 1 || presentation > 1 || !number.sound() {
+    let &[high, low, a, b, c, d, direction, presentation, ref rest @ ..] = body else { return None };
+    let (number_type, &number) = rest.split_last_chunk()?;
+    let number_type = number_type.first().copied().unwrap_or(UNKNOWN);
+    let (reference, leg, number) = (reference(high, low)?, u32::from_be_bytes([a, b, c, d]), Number(number));
+    if direction > 1 || presentation > 1 || number_type > NATIONAL || !number.sound() {
         return None;
     }
-    Some(Event::Open { reference, leg: u32::from_be_bytes([a, b, c, d]), direction, presentation, number })
+    Some(Event::Open { reference, leg, direction, presentation, number_type, number })
 }
 
 fn read_progress<'a>(high: u8, low: u8, state: u8) -> Option<Event<'a>> {
@@ -161,9 +193,9 @@ fn sound_event(
 ) -> Result<usize, u8> {
     let mut replies = Replies::new(buffer);
     match Event::read(record)? {
-        Event::Open { reference, leg, direction, presentation, number } => {
-            let row = opened(reference, leg, direction, presentation, number);
-            open(board, index, reference, row)?;
+        Event::Open { reference, leg, direction, presentation, number_type, number } => {
+            let standing = opened(reference, direction);
+            open(board, index, reference, Row { leg, standing, presentation, number_type, number })?;
         }
         Event::Progress { reference, state } => progress(board, index, reference, state)?,
         Event::Hold { reference, aux } => hold(board, index, reference, aux)?,
@@ -179,10 +211,9 @@ fn sound_event(
     Ok(replies.written())
 }
 
-fn opened(reference: Reference, leg: u32, direction: u8, presentation: u8, number: Number) -> Row {
+fn opened(reference: Reference, direction: u8) -> Standing {
     let state = if direction == INCOMING { CallState::Received } else { CallState::Proceeding };
-    let call = Call { reference, direction, state, aux: Aux::Idle, link: None };
-    Row { leg, standing: Standing::Served(call), presentation, number }
+    Standing::Served(Call { reference, direction, state, aux: Aux::Idle, link: None })
 }
 
 fn open(board: &mut Board, index: &impl Lookup, reference: Reference, row: Row) -> Result<(), u8> {

@@ -1,7 +1,7 @@
 //! Reading an EctInform invoke, by which a private exchange says that it has transferred a call.
 
 use crate::argument::argument;
-use crate::board::Number;
+use crate::board::{Number, UNKNOWN};
 use crate::component::{take, ECT_INFORM};
 use crate::reply::Told;
 
@@ -42,7 +42,7 @@ fn redirection(octets: &[u8]) -> Option<Told> {
     match (element.tag, element.contents) {
         _ if !rest.is_empty() => None,
         (0x81, []) => Some(Told::Withheld),
-        (0xA0, contents) => digits(contents).map(Told::Given),
+        (0xA0, contents) => digits(contents).map(|number| Told::Given(UNKNOWN, number)),
         _ => None,
     }
 }

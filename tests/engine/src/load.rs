@@ -1,8 +1,9 @@
-//! Long logs that keep a board at a given load, for timing.
+//! Long logs that keep a board at a given load, for timing. Their Opens are of kind 1.
 
 use crate::actions::{step, Style};
 use crate::board::{Aux, Call, CallState};
 use crate::component::Operation;
+use crate::opens::Opens;
 use crate::records;
 use crate::rng::Rng;
 use crate::script::Script;
@@ -14,7 +15,7 @@ const BUSY: Style =
 
 /// A log of that many events with about that many legs; also gives the mean of legs.
 pub fn log(rng: &mut Rng, legs: usize, events: usize) -> (Vec<u8>, f64) {
-    let mut script = Script { pads: false, ..Script::new(rng, 1, 1) };
+    let mut script = Script { pads: false, opens: Opens::Old, ..Script::new(rng, 1, 1) };
     let mut sum = 0;
     let mut steps = 0;
     while script.events() < events {

@@ -3,6 +3,7 @@
 use crate::actions::{step, Style};
 use crate::cycle;
 use crate::damage::damage;
+use crate::opens::Opens;
 use crate::rng::Rng;
 use crate::script::Script;
 
@@ -54,6 +55,8 @@ const OPTIONS: [(u8, u8); 8] = [(1, 1), (1, 0), (0, 0), (0, 1), (1, 3), (1, 2), 
 const COMBINED: [u32; 8] = [12, 6, 1, 1, 36, 28, 3, 3];
 const OTHERWISE: [u32; 8] = [44, 22, 11, 11, 14, 7, 4, 4];
 
+const OPENS: [Opens; 3] = [Opens::Old, Opens::Moved, Opens::Any];
+
 pub struct Logs {
     rng: Rng,
     made: usize,
@@ -75,8 +78,8 @@ impl Iterator for Logs {
         }
         self.made += 1;
         Some(match self.made {
-            1 => cycle::log(&mut self.rng, 1),
-            CYCLES => cycle::log(&mut self.rng, 3),
+            1 => cycle::log(&mut self.rng, 1, Opens::Old),
+            CYCLES => cycle::log(&mut self.rng, 3, Opens::Any),
             _ => steered(&mut self.rng),
         })
     }
@@ -88,9 +91,10 @@ pub fn steered(rng: &mut Rng) -> Vec<u8> {
     let style = &STYLES[which];
     let weights = if which == COMBINING { &COMBINED } else { &OTHERWISE };
     let (subscribed, alerting) = OPTIONS[rng.weighted(weights)];
-    let damaged = rng.percent(12);
+    let damaged = rng.percent(14);
     let length = rng.within(style.length.0, style.length.1);
-    let mut script = Script::new(rng, subscribed, alerting);
+    let opens = OPENS[rng.weighted(&[22, 14, 64])];
+    let mut script = Script { opens, ..Script::new(rng, subscribed, alerting) };
     for _ in 0..style.opens_first {
         let direction = script.rng.below(2) as u8;
         script.open(direction);

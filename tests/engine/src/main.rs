@@ -7,14 +7,17 @@ use std::time::Instant;
 
 use engine::compare::{against, engine_alone};
 use engine::logs::DEFAULT_SEED;
+use engine::mover::{self, CANNOT_WRITE};
 use engine::play::{play, play_tested_once};
 use engine::rng::Rng;
 use engine::tally::Tally;
-use engine::{load, timing};
+use engine::{load, moves, timing};
 
 const USAGE: &str = "engine check PATH [SEED]   compare a player with the engine
 engine time PATH           speed of a player and of the engine
+engine moves PATH [SEED]   compare a mover of logs with the engine
 engine play [once]         play the log on standard input; once: the board is tested once
+engine move new|old [FILE] move the log on standard input, or in a file, to that form
 engine load LEGS EVENTS    write a log that keeps about so many legs
 engine self [SEED]         play the logs through the engine alone";
 
@@ -24,8 +27,10 @@ fn main() -> ExitCode {
     let done = match arguments.as_slice() {
         ["check", path, seed @ ..] => run(seed, |seed| against(path, seed)),
         ["self", seed @ ..] => run(seed, engine_alone),
+        ["moves", path, seed @ ..] => run(seed, |seed| moves::against(path, seed)),
         ["time", path] => time(path),
         ["play"] => play_input(play),
+        ["move", words @ ..] => return move_input(words),
         ["play", "once"] => play_input(play_tested_once),
         ["load", legs, events] => load(legs, events),
         _ => Err(USAGE.to_string()),
@@ -66,6 +71,17 @@ fn play_input(play: fn(&[u8], &mut Vec<u8>) -> u64) -> Result<(), String> {
     write_output(&text)
 }
 
+/// As the product's program does it.
+fn move_input(words: &[&str]) -> ExitCode {
+    let ended = mover::run(words, io::stdin());
+    if write_output(&ended.output).is_err() {
+        eprint!("{CANNOT_WRITE}");
+        return ExitCode::FAILURE;
+    }
+    eprint!("{}", String::from_utf8_lossy(&ended.errors));
+    ExitCode::from(ended.status as u8)
+}
+
 /// Writes a log as `time` plays it, for other measuring tools.
 fn load(legs: &str, events: &str) -> Result<(), String> {
     let number = |text: &str| text.parse().map_err(|_| format!("{text}: not a decimal number"));
@@ -74,5 +90,6 @@ fn load(legs: &str, events: &str) -> Result<(), String> {
 }
 
 fn write_output(octets: &[u8]) -> Result<(), String> {
-    io::stdout().write_all(octets).map_err(|error| error.to_string())
+    let mut output = io::stdout();
+    output.write_all(octets).and_then(|()| output.flush()).map_err(|error| error.to_string())
 }

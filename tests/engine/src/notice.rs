@@ -1,26 +1,33 @@
 //! Watches a log as the engine plays it and tallies what occurs.
 
-use std::collections::HashSet;
+use std::collections::{HashMap, HashSet};
 
 use crate::american;
 use crate::board::{Aux, Board, Call, CallState, LinkId, Reference, Row, Standing, INCOMING};
 use crate::carrier::Carrier;
-use crate::event::{event, Answer, Event, RELEASE};
+use crate::console;
+use crate::event::{event, Answer, Event, OPEN_TYPED, RELEASE};
 use crate::notice_answer;
 use crate::notice_carrier;
 use crate::notice_component;
 use crate::notice_inform;
 use crate::notice_invoke::rewritten;
 use crate::notice_leg;
+use crate::notice_open;
 use crate::notice_pair::looked_up;
 use crate::notice_refused::{bad_field, no_call, not_permitted, open_refused};
+use crate::opened;
 use crate::places;
 use crate::play::{next_record, start};
 use crate::reply::BUFFER;
 use crate::rows::board_sound;
 use crate::seen_carrier::CarrierSeen;
 use crate::seen_rules::RuleSeen;
+use crate::seen_type::TypeSeen;
 use crate::tally::{Seen, Tally};
+
+/// A Reply, two Drops and two Tells that say a type.
+const MOST_WRITTEN: usize = 94;
 
 /// What happened earlier in the log.
 #[derive(Default)]
@@ -42,6 +49,8 @@ pub struct Past {
     /// Legs that an Inform was told to, and those of them that were told another number than their own.
     pub informed: HashSet<u32>,
     pub other_number: HashSet<u32>,
+    /// The type of the last party that a row had.
+    pub types: HashMap<usize, u8>,
 }
 
 /// One event with the board before and after it.
@@ -90,12 +99,16 @@ pub fn watch(log: &[u8], tally: &mut Tally) -> Result<(), Fault> {
             .and_then(|()| invokes_stand(&moment, tally))
             .and_then(|()| places::stands(&moment))
             .and_then(|()| american::stands(&moment))
+            .and_then(|()| console::stands(&moment))
+            .and_then(|()| opened::stands(&moment))
             .map_err(|what| Fault { event: number, what })?;
         notice(&moment, &mut past, tally);
+        console::notice(&moment, tally);
         tally.add_if(returned == 4 && rest.len() == 1, Seen::UnknownKindLast);
         if let (Some(carrier), [_]) = (Carrier::of(record[0]), after) {
             tally.add((carrier, CarrierSeen::OneBehind));
         }
+        tally.add_if(record[0] == OPEN_TYPED && after.len() == 1, TypeSeen::OneBehind);
         rest = after;
     }
     tally.events += number as u64;
@@ -131,16 +144,32 @@ fn stands(before: &Board, after: &Board, answer: Answer, buffer: &[u8; BUFFER]) 
     if (answer.returned != 0 || error) && before != after {
         return Err("a refusal or an error changed the board".to_string());
     }
+    if answer.written > MOST_WRITTEN {
+        return Err(format!("{} octets were written", answer.written));
+    }
     if answer.returned != 0 && answer.written != 0 {
         return Err("a refusal wrote octets".to_string());
     }
     if buffer[answer.written..].iter().any(|&octet| octet != 0x5A) {
         return Err("octets beyond those counted were written".to_string());
     }
+    if !parties_kept(before, after) {
+        return Err("a row that stays taken has another party".to_string());
+    }
     if !board_sound(after) {
         return Err("the board is no longer sound".to_string());
     }
     Ok(())
+}
+
+/// A row that stays taken keeps all but its standing.
+fn parties_kept(before: &Board, after: &Board) -> bool {
+    let taken = |row: &Row| row.standing != Standing::Empty;
+    before
+        .rows
+        .iter()
+        .zip(&after.rows)
+        .all(|(row, now)| !taken(row) || !taken(now) || *now == Row { standing: now.standing, ..*row })
 }
 
 /// What holds of every invoke that a Facility handed over: see `rewritten` and `looked_up`.
@@ -161,6 +190,7 @@ fn notice(moment: &Moment, past: &mut Past, tally: &mut Tally) {
             if let Some(carrier) = carrier {
                 notice_carrier::cut(moment.record, carrier, tally);
             }
+            notice_open::cut(moment.record, tally);
         }
         (_, Some(carrier)) => notice_carrier::judged(moment, carrier, past, tally),
         (0, _) => accepted(moment, past, tally),
@@ -185,7 +215,7 @@ pub fn call_of(board: &Board, reference: Reference) -> Option<&Call> {
 
 fn accepted(moment: &Moment, past: &mut Past, tally: &mut Tally) {
     match Event::read(moment.record) {
-        Ok(Event::Open { reference, leg, .. }) => opened(moment, reference, leg, tally),
+        Ok(Event::Open { reference, leg, .. }) => opened(moment, reference, leg, past, tally),
         Ok(Event::Progress { reference, state }) => {
             let Some(call) = call_of(moment.before, reference) else { return };
             tally.add(match (call.state, state) {
@@ -210,12 +240,13 @@ fn accepted(moment: &Moment, past: &mut Past, tally: &mut Tally) {
     }
 }
 
-fn opened(moment: &Moment, reference: Reference, leg: u32, tally: &mut Tally) {
+fn opened(moment: &Moment, reference: Reference, leg: u32, past: &mut Past, tally: &mut Tally) {
     let Some(place) =
         moment.after.rows.iter().position(|row| row.leg == leg && row.standing != Standing::Empty)
     else {
         return;
     };
+    notice_open::opened(moment, place, past, tally);
     let row = &moment.after.rows[place];
     let incoming = row.call().is_some_and(|call| call.direction == INCOMING);
     tally.add(if incoming { Seen::OpenIncoming } else { Seen::OpenOutgoing });

@@ -2,6 +2,7 @@
 
 use crate::board::{Board, Row, Standing};
 use crate::notice::{row_of_leg, Moment, Past};
+use crate::notice_type;
 use crate::reply::Told;
 use crate::rules::RuleSet;
 use crate::seen_rules::{AnswerSeen, RuleSeen};
@@ -13,6 +14,7 @@ pub fn answered(board: &Board, row: &Row, past: &Past, tally: &mut Tally) {
     let Some(other) = row_of_leg(board, partner) else { return };
     let rules = board.rules();
     numbers(rules, row, other, tally);
+    notice_type::answered(rules, row, other, tally);
     let of = |test: bool, seen: [AnswerSeen; 2]| (rules, seen[test as usize]);
     let named = past.named.contains(&row.leg);
     tally.add(of(named, [AnswerSeen::OtherAnswers, AnswerSeen::NamedAnswers]));
@@ -32,7 +34,7 @@ fn numbers(rules: RuleSet, row: &Row, other: &Row, tally: &mut Tally) {
     ];
     let mark = |row: &Row| Told::of(row).mark() as usize;
     tally.add((rules, marks[mark(row)][mark(other)]));
-    if let (Told::Given(own), Told::Given(partners)) = (Told::of(row), Told::of(other)) {
+    if let (Told::Given(_, own), Told::Given(_, partners)) = (Told::of(row), Told::of(other)) {
         let lengths = partners.count().cmp(&own.count());
         tally.add_if(lengths.is_lt(), (rules, Fewer));
         tally.add_if(lengths.is_gt(), (rules, More));

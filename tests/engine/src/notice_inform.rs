@@ -5,6 +5,7 @@ use crate::inform::{self, EctInform, Indication};
 use crate::notice::{call_of, Moment, Past};
 use crate::notice_component::{others, row_of};
 use crate::notice_inform_refused::{absent, not_active, refused};
+use crate::notice_type;
 use crate::reply::Told;
 use crate::rules::RuleSet;
 use crate::seen_inform::InformSeen;
@@ -23,6 +24,7 @@ pub fn judged(moment: &Moment, reference: Reference, component: &[u8], past: &mu
         (Some(_), Some(inform)) => {
             form(&inform, tally);
             beside_own(&inform, row, tally);
+            notice_type::informed(moment.before.rules(), &inform, row, tally);
             call_told(moment.before, row, past, tally);
             remember(&inform, row, past);
         }
@@ -48,7 +50,7 @@ fn form(inform: &EctInform, tally: &mut Tally) {
     tally.add(match inform.number {
         Told::Unknown => none,
         Told::Withheld => restricted,
-        Told::Given(number) => {
+        Told::Given(_, number) => {
             digits[match number.count() {
                 1 => 0,
                 2 => 1,
@@ -70,10 +72,10 @@ fn beside_own(inform: &EctInform, row: &Row, tally: &mut Tally) {
         (Indication::Alerting, _) => [AlertingOwnUnknown, AlertingOwnGiven, AlertingOwnWithheld],
         (_, Told::Unknown) => [NoneOwnUnknown, NoneOwnGiven, NoneOwnWithheld],
         (_, Told::Withheld) => [WithheldOwnUnknown, WithheldOwnGiven, WithheldOwnWithheld],
-        (_, Told::Given(_)) => [GivenOwnUnknown, GivenOwnGiven, GivenOwnWithheld],
+        (_, Told::Given(..)) => [GivenOwnUnknown, GivenOwnGiven, GivenOwnWithheld],
     };
     tally.add(by_own[Told::of(row).mark() as usize]);
-    let (Indication::Active, Told::Given(number)) = (inform.indication, inform.number) else { return };
+    let (Indication::Active, Told::Given(_, number)) = (inform.indication, inform.number) else { return };
     let restricted = row.presentation == 1;
     let (own, told) = (row.number.count(), number.count());
     tally.add(match own {
@@ -132,6 +134,7 @@ pub fn own_number_told(row: &Row, past: &Past, tally: &mut Tally) {
     let marks = [InformSeen::TransferUnknown, InformSeen::TransferGiven, InformSeen::TransferWithheld];
     let after = past.other_number.contains(&row.leg);
     tally.add_if(after, marks[Told::of(row).mark() as usize]);
+    notice_type::own_number_told(row, after, tally);
 }
 
 /// What is known of a party, and of its partner, ends with a Release.

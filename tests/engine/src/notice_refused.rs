@@ -1,10 +1,11 @@
 //! What occurs where an event is refused, but for Leg facilities and Informs.
 
-use crate::board::{Call, Reference, Standing};
-use crate::event::{Event, HOLD, OPEN, PROGRESS};
+use crate::board::{Board, Call, Reference, Standing};
+use crate::event::{Event, HOLD, OPEN, OPEN_TYPED, PROGRESS};
 use crate::notice::{call_of, row_of_leg, Moment, Past};
 use crate::notice_answer;
 use crate::notice_leg;
+use crate::notice_open;
 use crate::tally::{Seen, Tally};
 
 /// The reference that stands first in the body of most records.
@@ -18,7 +19,7 @@ pub fn bad_field(moment: &Moment, tally: &mut Tally) {
     tally.add_if(reference.0 == 0, Seen::BadReference0);
     tally.add_if(reference.0 == 0x8000, Seen::BadReference8000);
     match record[0] {
-        OPEN => bad_open(moment, tally),
+        OPEN | OPEN_TYPED => bad_open(moment, tally),
         PROGRESS => tally.add_if(record[3] != 4 && record[3] != 10, Seen::BadState),
         HOLD => tally.add_if(record[3] > 3, Seen::BadAux),
         _ => {
@@ -27,7 +28,8 @@ pub fn bad_field(moment: &Moment, tally: &mut Tally) {
             tally.add_if((1..=32).contains(&record[3]), Seen::BadComponentFill);
         }
     }
-    let absent = record[0] != OPEN && reference.valid() && call_of(moment.before, reference).is_none();
+    let opens = matches!(record[0], OPEN | OPEN_TYPED);
+    let absent = !opens && reference.valid() && call_of(moment.before, reference).is_none();
     tally.add_if(absent, Seen::FieldBeforeAbsent);
 }
 
@@ -35,20 +37,28 @@ fn bad_open(moment: &Moment, tally: &mut Tally) {
     let record = moment.record;
     tally.add_if(record[7] > 1, Seen::BadDirection);
     tally.add_if(record[8] > 1, Seen::BadPresentation);
-    tally.add_if(record[9] > 15, Seen::BadDigitCount);
-    if record[9] <= 15 {
-        let (digits, fill) = record[10..].split_at(record[9] as usize);
+    let (count, octets) = (record[record.len() - 16], &record[record.len() - 15..]);
+    tally.add_if(count > 15, Seen::BadDigitCount);
+    if count <= 15 {
+        let (digits, fill) = octets.split_at(count as usize);
         tally.add_if(digits.iter().any(|octet| !octet.is_ascii_digit()), Seen::BadDigit);
         tally.add_if(fill.iter().any(|&octet| octet != 0), Seen::BadDigitFill);
     }
+    tally.add_if(taken(moment.before, record).0, Seen::FieldBeforeTaken);
+    notice_open::bad_field(moment, tally);
+}
+
+/// Whether the leg of an Open is on the board, a call has its reference, and no row is empty.
+pub fn taken(board: &Board, record: &[u8]) -> (bool, bool, bool) {
     let leg = u32::from_be_bytes([record[3], record[4], record[5], record[6]]);
-    tally.add_if(row_of_leg(moment.before, leg).is_some(), Seen::FieldBeforeTaken);
+    let full = board.rows.iter().all(|row| row.standing != Standing::Empty);
+    (row_of_leg(board, leg).is_some(), call_of(board, reference(record)).is_some(), full)
 }
 
 pub fn open_refused(moment: &Moment, tally: &mut Tally) {
-    let Ok(Event::Open { reference, leg, .. }) = Event::read(moment.record) else { return };
-    let full = moment.before.rows.iter().all(|row| row.standing != Standing::Empty);
-    let in_use = call_of(moment.before, reference).is_some();
+    let Ok(Event::Open { leg, .. }) = Event::read(moment.record) else { return };
+    let (_, in_use, full) = taken(moment.before, moment.record);
+    notice_open::refused(moment, tally);
     match moment.returned {
         6 => {
             let joined = row_of_leg(moment.before, leg).is_some_and(|row| row.call().is_none());

@@ -5,6 +5,7 @@ use crate::notice::Past;
 use crate::notice_american;
 use crate::notice_component::row_of;
 use crate::notice_inform;
+use crate::notice_type;
 use crate::reply::Told;
 use crate::rules::RuleSet;
 use crate::seen_rules::{RuleSeen, TransferSeen};
@@ -81,14 +82,15 @@ fn told(named: (&Row, &Call), other: (&Row, &Call), asked: Asked, past: &Past, t
     match (a.state, b.state) {
         (CallState::Delivered, _) => {
             tally.add((asked, TransferSeen::NamedAlerts));
-            told_alerting(named, second, asked.rules(), past, tally);
+            told_alerting(named, second, asked, past, tally);
         }
         (_, CallState::Delivered) => {
             tally.add((asked, TransferSeen::OtherAlerts));
-            told_alerting(other, row, asked.rules(), past, tally);
+            told_alerting(other, row, asked, past, tally);
         }
         _ => {
             tally.add((asked, TransferSeen::Active));
+            notice_type::both_active(row, second, asked, tally);
             let marks = [RuleSeen::TellUnknown, RuleSeen::TellGiven, RuleSeen::TellWithheld];
             for row in [row, second] {
                 tally.add((asked.rules(), marks[Told::of(row).mark() as usize]));
@@ -100,8 +102,9 @@ fn told(named: (&Row, &Call), other: (&Row, &Call), asked: Asked, past: &Past, t
 
 /// The Active party is not sent the number of the one that alerts. By European rules that one is
 /// sent the Active party's; by American it is told nothing.
-fn told_alerting(alerting: (&Row, &Call), active: &Row, rules: RuleSet, past: &Past, tally: &mut Tally) {
-    let (row, call) = alerting;
+fn told_alerting(alerting: (&Row, &Call), active: &Row, asked: Asked, past: &Past, tally: &mut Tally) {
+    let ((row, call), rules) = (alerting, asked.rules());
+    notice_type::one_alerting(row, active, asked, tally);
     let held = call.aux == Aux::Held;
     tally.add((rules, if held { RuleSeen::TransferAlertingHeld } else { RuleSeen::TransferAlertingIdle }));
     let marks = [RuleSeen::UnsentUnknown, RuleSeen::UnsentGiven, RuleSeen::UnsentWithheld];

@@ -33,16 +33,8 @@ const ONE_HELD: [NotZero; 16] = [
 ];
 
 /// By American rules these too: neither call held.
-const NEITHER_HELD: [NotZero; 8] = [
-    (8, 24, 2),
-    (8, 25, 2),
-    (24, 8, 2),
-    (24, 24, 1),
-    (24, 25, 1),
-    (25, 8, 2),
-    (25, 24, 1),
-    (25, 25, 1),
-];
+const NEITHER_HELD: [NotZero; 8] =
+    [(8, 24, 2), (8, 25, 2), (24, 8, 2), (24, 24, 1), (24, 25, 1), (25, 8, 2), (25, 24, 1), (25, 25, 1)];
 
 /// The verdict on two calls, at 32 times the situation of the one plus that of the other.
 pub type Table = [u8; SITUATIONS * SITUATIONS];

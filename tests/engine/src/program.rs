@@ -1,10 +1,12 @@
-//! Running another player: the log on its standard input, the text from its output.
+//! Running another program: the log on its standard input, the text from its output.
 
 use std::io::{ErrorKind, Read, Write};
 use std::process::{Child, ChildStdin, Command, ExitStatus, Stdio};
 use std::sync::{Arc, Mutex};
 use std::thread;
 use std::time::{Duration, Instant};
+
+use crate::mover::Ended;
 
 /// How a log is fed.
 #[derive(Clone, Copy)]
@@ -32,28 +34,37 @@ impl Program {
         }
     }
 
-    /// Plays a log. Writing and reading go on side by side, so no pipe can fill up for good.
+    /// Plays a log; what is written on standard error is not looked at, nor the exit status.
     pub fn play(&self, log: &[u8], feed: Feed) -> Result<Vec<u8>, String> {
-        let mut child = Command::new(&self.path)
-            .args(&self.arguments)
-            .stdin(Stdio::piped())
-            .stdout(Stdio::piped())
-            .stderr(Stdio::null())
-            .spawn()
-            .map_err(|error| format!("{} does not start: {error}", self.path))?;
-        let (Some(input), Some(mut output)) = (child.stdin.take(), child.stdout.take()) else {
-            return Err("no pipes".to_string());
-        };
+        let mut command = self.command(&[]);
+        command.stdin(Stdio::piped()).stdout(Stdio::piped()).stderr(Stdio::null());
+        self.run(command, log, feed).map(|ended| ended.output)
+    }
+
+    /// The program with its arguments and further ones.
+    pub fn command(&self, further: &[&str]) -> Command {
+        let mut command = Command::new(&self.path);
+        command.args(&self.arguments).args(further);
+        command
+    }
+
+    /// Runs a command with a log for its standard input, if that is a pipe. Writing and reading go on
+    /// side by side, so no pipe can fill up for good.
+    pub fn run(&self, mut command: Command, log: &[u8], feed: Feed) -> Result<Ended, String> {
+        let mut child = command.spawn().map_err(|error| format!("{} does not start: {error}", self.path))?;
+        let (input, output, errors) = (child.stdin.take(), child.stdout.take(), child.stderr.take());
         *self.running.lock().unwrap() = Some((child, Instant::now() + allowance(log)));
-        let mut text = Vec::new();
         let (written, read) = thread::scope(|scope| {
-            let writer = scope.spawn(|| write_log(input, log, feed));
-            let read = output.read_to_end(&mut text);
-            (writer.join(), read)
+            let writer = scope.spawn(|| input.map_or(Ok(()), |input| write_log(input, log, feed)));
+            let errors = scope.spawn(|| all(errors));
+            let output = all(output);
+            (writer.join(), output.and_then(|output| Some((output, errors.join().ok()??))))
         });
         match (written, read, self.end()) {
-            (Ok(Ok(())), Ok(_), Some(status)) if status.code().is_some() => Ok(text),
-            (_, _, Some(status)) => Err(format!("{} ended badly: {status}", self.path)),
+            (Ok(Ok(())), Some((output, errors)), Some(status)) => match status.code() {
+                Some(status) => Ok(Ended { output, errors, status }),
+                None => Err(format!("{} ended badly: {status}", self.path)),
+            },
             _ => Err(format!("{}: pipe trouble", self.path)),
         }
     }
@@ -73,6 +84,13 @@ impl Program {
             thread::sleep(Duration::from_micros(50));
         }
     }
+}
+
+/// All that comes by a pipe, if there is one.
+fn all(pipe: Option<impl Read>) -> Option<Vec<u8>> {
+    let mut octets = Vec::new();
+    pipe.map_or(Ok(0), |mut pipe| pipe.read_to_end(&mut octets)).ok()?;
+    Some(octets)
 }
 
 /// Far more time than any sensible player needs.

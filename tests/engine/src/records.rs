@@ -2,7 +2,10 @@
 
 use crate::board::{LinkId, Reference};
 use crate::component::{ECT_INFORM, EXPLICIT, LINK_REQUEST, OBJECT, SUBADDRESS};
-use crate::event::{ANSWER, FACILITY, HOLD, INFORM, LEG_FACILITY, OPEN, PROGRESS, RELEASE};
+use crate::event::{ANSWER, FACILITY, HOLD, INFORM, LEG_FACILITY, OPEN, OPEN_TYPED, PROGRESS, RELEASE};
+
+/// The place of the type of number in an Open that has one.
+pub const TYPE_AT: usize = 9;
 
 /// An Open record. `digits` has at most fifteen octets.
 pub fn open(reference: Reference, leg: u32, direction: u8, presentation: u8, digits: &[u8]) -> Vec<u8> {
@@ -13,6 +16,21 @@ pub fn open(reference: Reference, leg: u32, direction: u8, presentation: u8, dig
     record.extend(digits);
     record.resize(25, 0);
     record
+}
+
+/// The same with a type of number.
+pub fn typed(mut open: Vec<u8>, number_type: u8) -> Vec<u8> {
+    open[0] = OPEN_TYPED;
+    open.insert(TYPE_AT, number_type);
+    open
+}
+
+/// An Open with a type, or one of kind 1 where there is none.
+pub fn perhaps_typed(open: Vec<u8>, number_type: Option<u8>) -> Vec<u8> {
+    match number_type {
+        Some(number_type) => typed(open, number_type),
+        None => open,
+    }
 }
 
 pub fn progress(reference: Reference, state: u8) -> Vec<u8> {

@@ -1,11 +1,13 @@
 //! Writing reply records into the lent buffer.
 
-use crate::board::{LinkId, Number, Reference, Row, RESTRICTED};
+use crate::board::{LinkId, Number, Reference, Row, RESTRICTED, UNKNOWN};
 use crate::component::OBJECT;
 
 pub const BUFFER: usize = 128;
 pub const ALERTING: u8 = 0xE9;
 pub const ACTIVE: u8 = 0xEA;
+pub const TELL: u8 = 0x82;
+pub const TELL_TYPED: u8 = 0x86;
 
 #[derive(Clone, Copy)]
 pub enum Message {
@@ -101,9 +103,14 @@ impl<'a> Replies<'a> {
 
     pub fn tell(&mut self, leg: u32, message: Message, description: u8, request: u8, number: Told) {
         let [a, b, c, d] = leg.to_be_bytes();
-        self.put(&[0x82, a, b, c, d, message as u8, description, number.mark(), request]);
+        let kind = if number.typed() { TELL_TYPED } else { TELL };
+        self.put(&[kind, a, b, c, d, message as u8, description, number.mark(), request]);
         match number {
-            Told::Given(number) => self.put(&number.0),
+            Told::Given(UNKNOWN, number) => self.put(&number.0),
+            Told::Given(number_type, number) => {
+                self.put(&[number_type]);
+                self.put(&number.0);
+            }
             _ => self.put(&Number::NONE.0),
         }
     }
@@ -131,7 +138,8 @@ impl<'a> Replies<'a> {
 #[derive(Clone, Copy, PartialEq, Eq, Debug)]
 pub enum Told {
     Unknown,
-    Given(Number),
+    /// Its type, then its digits.
+    Given(u8, Number),
     Withheld,
 }
 
@@ -141,15 +149,20 @@ impl Told {
         match (row.number.count(), row.presentation) {
             (0, _) => Told::Unknown,
             (_, RESTRICTED) => Told::Withheld,
-            _ => Told::Given(row.number),
+            _ => Told::Given(row.number_type, row.number),
         }
     }
 
     pub fn mark(self) -> u8 {
         match self {
             Told::Unknown => 0,
-            Told::Given(_) => 1,
+            Told::Given(..) => 1,
             Told::Withheld => 2,
         }
+    }
+
+    /// Whether the record has to say the type.
+    pub fn typed(self) -> bool {
+        matches!(self, Told::Given(number_type, _) if number_type != UNKNOWN)
     }
 }

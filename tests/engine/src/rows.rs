@@ -45,6 +45,7 @@ fn fields_sound(row: &Row) -> bool {
 fn party_sound(row: &Row) -> bool {
     let count = row.number.0[0] as usize;
     row.presentation <= 1
+        && row.number_type <= 2
         && count <= 15
         && row.number.0[1..1 + count].iter().all(u8::is_ascii_digit)
         && row.number.0[1 + count..].iter().all(|&octet| octet == 0)

@@ -6,6 +6,7 @@ use crate::component::Operation;
 use crate::event::event;
 use crate::invoke::{Invoke, InvokeId, ROOM};
 use crate::odd;
+use crate::opens::Opens;
 use crate::records;
 use crate::reply::BUFFER;
 use crate::rng::Rng;
@@ -22,6 +23,7 @@ pub struct Script<'a> {
     pub old_legs: Vec<u32>,
     /// Whether an invoke is at times sent padded first, which is rejected.
     pub pads: bool,
+    pub opens: Opens,
 }
 
 impl<'a> Script<'a> {
@@ -29,7 +31,8 @@ impl<'a> Script<'a> {
         let (_, board) = Board::fresh(subscribed, alerting);
         let log = vec![subscribed, alerting];
         let (starts, old_references, old_links, old_legs) = (Vec::new(), Vec::new(), Vec::new(), Vec::new());
-        Script { rng, board, log, starts, old_references, old_links, old_legs, pads: true }
+        let (pads, opens) = (true, Opens::Any);
+        Script { rng, board, log, starts, old_references, old_links, old_legs, pads, opens }
     }
 
     pub fn events(&self) -> usize {
@@ -215,7 +218,9 @@ impl<'a> Script<'a> {
         let (reference, leg) = (self.fresh_reference(), self.fresh_leg());
         let presentation = self.rng.percent(35) as u8;
         let digits = self.digits();
-        self.put(&records::open(reference, leg, direction, presentation, &digits));
+        let record = records::open(reference, leg, direction, presentation, &digits);
+        let number_type = self.opens.number_type(self.rng);
+        self.put(&records::perhaps_typed(record, number_type));
         self.old_references.push(reference);
         self.old_legs.push(leg);
         reference

@@ -1,10 +1,15 @@
 //! How often each occurrence was met. All of them have to be met for a run to count.
 
+use std::ops::Range;
+
 pub use crate::seen::Seen;
 use crate::seen_carrier::CarrierSeen;
 use crate::seen_inform::{InformSeen, NumberSeen};
 use crate::seen_leg::LegSeen;
+use crate::seen_move::{MoveSeen, ToNewSeen, ToOldSeen};
 use crate::seen_rules::{AmericanSeen, AnswerSeen, RuleSeen, TransferSeen};
+use crate::seen_run::{InputSeen, RunSeen};
+use crate::seen_type::{AnswerTypeSeen, ConsoleSeen, InformTypeSeen, OpenSeen, TransferTypeSeen, TypeSeen};
 use crate::seen_verdict::{ApartSeen, IdleSeen, PairSeen};
 
 /// Declares a list of occurrences. Its places among all begin behind those of the lists before;
@@ -49,7 +54,7 @@ pub enum Alone {
 }
 
 /// The lists in their order, each with what its texts begin with.
-const LISTS: [(&str, &[&str]); 21] = [
+const LISTS: [(&str, &[&str]); 43] = [
     ("", Seen::TEXTS),
     ("", LegSeen::TEXTS),
     ("", InformSeen::TEXTS),
@@ -71,6 +76,28 @@ const LISTS: [(&str, &[&str]); 21] = [
     ("American: ", IdleSeen::TEXTS),
     ("European: ", ApartSeen::TEXTS),
     ("American: ", ApartSeen::TEXTS),
+    ("Open of kind 1, ", OpenSeen::TEXTS),
+    ("Open of kind 9 and type 0, ", OpenSeen::TEXTS),
+    ("Open of kind 9 and type 1, ", OpenSeen::TEXTS),
+    ("Open of kind 9 and type 2, ", OpenSeen::TEXTS),
+    ("", TypeSeen::TEXTS),
+    ("European: EctExecute transfer, ", TransferTypeSeen::TEXTS),
+    ("European: ExplicitEctExecute transfer, ", TransferTypeSeen::TEXTS),
+    ("American: ExplicitEctExecute transfer, ", TransferTypeSeen::TEXTS),
+    ("European: ", AnswerTypeSeen::TEXTS),
+    ("American: ", AnswerTypeSeen::TEXTS),
+    ("", InformTypeSeen::TEXTS),
+    ("European: ", ConsoleSeen::TEXTS),
+    ("American: ", ConsoleSeen::TEXTS),
+    ("old to new: ", MoveSeen::TEXTS),
+    ("new to old: ", MoveSeen::TEXTS),
+    ("old to new: ", ToNewSeen::TEXTS),
+    ("new to old: ", ToOldSeen::TEXTS),
+    ("new from standard input, ", RunSeen::TEXTS),
+    ("old from standard input, ", RunSeen::TEXTS),
+    ("new by a file's name, ", RunSeen::TEXTS),
+    ("old by a file's name, ", RunSeen::TEXTS),
+    ("", InputSeen::TEXTS),
 ];
 
 /// The occurrences of so many lists.
@@ -87,17 +114,29 @@ const ALL: usize = before(LISTS.len());
 
 pub struct Tally {
     counts: [u64; ALL],
+    /// The lists that have to be met.
+    lists: Range<usize>,
     pub logs: u64,
     pub events: u64,
 }
 
+/// The lists of moved logs, counted where logs are played and where the program that moves them is
+/// run; and those of its runs.
+const MOVES: usize = 34;
+const RUNS: usize = 38;
+
 impl Default for Tally {
     fn default() -> Tally {
-        Tally { counts: [0; ALL], logs: 0, events: 0 }
+        Tally { counts: [0; ALL], lists: 0..RUNS, logs: 0, events: 0 }
     }
 }
 
 impl Tally {
+    /// For runs of the program that moves logs.
+    pub fn of_moves() -> Tally {
+        Tally { lists: MOVES..LISTS.len(), ..Tally::default() }
+    }
+
     pub fn add(&mut self, seen: impl Occurrence) {
         self.counts[seen.place()] += 1;
     }
@@ -112,9 +151,9 @@ impl Tally {
 
     /// The text of each occurrence with its count.
     fn lines(&self) -> impl Iterator<Item = (String, u64)> + '_ {
-        let texts =
-            LISTS.iter().flat_map(|(front, texts)| texts.iter().map(move |text| format!("{front}{text}")));
-        texts.zip(self.counts)
+        let lists = LISTS[self.lists.clone()].iter();
+        let texts = lists.flat_map(|(front, texts)| texts.iter().map(move |text| format!("{front}{text}")));
+        texts.zip(self.counts[before(self.lists.start)..].iter().copied())
     }
 
     /// One line for each occurrence, and the sums.
@@ -122,12 +161,22 @@ impl Tally {
         for (text, count) in self.lines() {
             println!("{count:>9}  {text}");
         }
-        println!("{} logs, {} events, {} occurrences", self.logs, self.events, ALL);
+        println!("{} logs, {} events, {} occurrences", self.logs, self.events, self.lines().count());
     }
 
     /// The occurrences that were never met.
     pub fn missing(&self) -> Vec<String> {
         self.texts(|count| count == 0)
+    }
+
+    /// A run counts only if every occurrence was met.
+    pub fn all_met(&self) -> Result<(), String> {
+        let missing = self.missing();
+        if missing.is_empty() {
+            return Ok(());
+        }
+        self.print();
+        Err(format!("never met: {}", missing.join("; ")))
     }
 
     /// Those that were.

@@ -99,6 +99,33 @@ fn wrong_answers_are_faults() {
     }
 }
 
+/// The type is lost, kept though the number is withheld, or 0 and told.
+#[test]
+fn wrong_types_are_faults() {
+    for (presentation, number_type, wrong) in [
+        (0, 1, (|written, _| written[42..].clone_from_slice(&[0; 52])) as Wrong),
+        (0, 1, |written, _| written[51] = 2),
+        (0, 1, |written, _| {
+            written[42] = 0x82;
+            written.remove(51);
+        }),
+        (0, 0, |written, _| {
+            written[42] = 0x86;
+            written.insert(51, 0);
+        }),
+        (1, 2, |written, _| {
+            written[42] = 0x86;
+            written.insert(51, 2);
+        }),
+    ] {
+        let mut desk = two_idle(2, 10, [(0, b"21"), (presentation, b"34")]);
+        let link = desk.link(2).unwrap();
+        desk.board.rows[1].number_type = number_type;
+        desk.board.rows[0].number_type = number_type;
+        assert!(judged(&desk.board, &facility(Reference(1), &explicit_link(ID, link)), wrong).is_err());
+    }
+}
+
 #[test]
 fn wrong_errors_are_faults() {
     let mut desk = Desk::new(0, 2);

@@ -3,7 +3,7 @@
 mod common;
 
 use common::ID;
-use engine::board::Number;
+use engine::board::{Number, UNKNOWN};
 use engine::carrier::Carrier;
 use engine::inform::{read, EctInform, Indication};
 use engine::notice_miss::{reason, Reason};
@@ -25,7 +25,7 @@ fn told(component: &[u8]) -> Option<EctInform> {
         number: match digits {
             None => Told::Unknown,
             Some([]) => Told::Withheld,
-            Some(digits) => Told::Given(Number::of(digits)),
+            Some(digits) => Told::Given(UNKNOWN, Number::of(digits)),
         },
     });
     assert_eq!(told, by_place, "{component:02x?}");
@@ -54,7 +54,7 @@ fn each_form_and_number_of_digits() {
             assert_eq!(of(RESTRICTED), Some(EctInform { indication, number: Told::Withheld }));
             for count in 0..=20 {
                 let number = Some(&digits[..count]).filter(|_| (1..=15).contains(&count));
-                let expected = number.map(|digits| Told::Given(Number::of(digits)));
+                let expected = number.map(|digits| Told::Given(UNKNOWN, Number::of(digits)));
                 let found = of(&given(&digits[..count]));
                 assert_eq!(found, expected.map(|number| EctInform { indication, number }), "{count}");
             }

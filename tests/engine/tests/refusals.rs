@@ -4,7 +4,9 @@ mod common;
 
 use common::{refused_with as refused, Desk};
 use engine::board::{Board, LinkId, Reference, Row, Standing, RESTRICTED};
-use engine::records::{answer, execute, facility, hold, inform, leg_facility, open, progress, release};
+use engine::records::{
+    answer, execute, facility, hold, inform, leg_facility, open, progress, release, typed,
+};
 
 fn unsound() -> Board {
     let (_, mut board) = Board::fresh(1, 1);
@@ -56,12 +58,13 @@ fn soundness_comes_before_the_record() {
 #[test]
 fn kind_comes_before_length() {
     let (_, board) = Board::fresh(1, 1);
-    for kind in [0, 10, 0x81, 0x85, 255] {
+    for kind in [0, 10, 0x81, 0x86, 255] {
         assert_eq!(refused(&board, &[kind], 128), 4);
         assert_eq!(refused(&board, &[kind; 25], 128), 4);
     }
     let whole = [
         open(Reference(1), 1, 0, 0, b""),
+        typed(open(Reference(1), 1, 0, 0, b""), 2),
         progress(Reference(1), 4),
         hold(Reference(1), 1),
         release(1),
@@ -94,6 +97,33 @@ fn fields_of_open() {
     }
     for reference in [0, 0x8000] {
         assert_eq!(refused(&desk.board, &open(Reference(reference), 101, 0, 0, b""), 128), 5);
+    }
+}
+
+#[test]
+fn fields_of_open_with_a_type() {
+    let mut desk = Desk::new(1, 1);
+    desk.call(1, 0, 3, 0);
+    for number_type in 0..=2 {
+        let good = typed(open(Reference(1), 101, 0, 0, b"12"), number_type);
+        assert_eq!(refused(&desk.board, &good, 128), 6);
+        let bad: [(usize, u8); 8] =
+            [(7, 2), (8, 2), (10, 16), (10, 1), (10, 3), (11, b'/'), (12, b':'), (13, b'0')];
+        for (place, octet) in bad {
+            let mut record = good.clone();
+            record[place] = octet;
+            assert_eq!(refused(&desk.board, &record, 128), 5, "octet {place}");
+        }
+        for reference in [0, 0x8000] {
+            let record = typed(open(Reference(reference), 101, 0, 0, b""), number_type);
+            assert_eq!(refused(&desk.board, &record, 128), 5);
+        }
+    }
+    for number_type in 3..=255 {
+        for (leg, digits) in [(101, b"12".as_slice()), (9, b"12"), (9, b"")] {
+            let record = typed(open(Reference(1), leg, 0, 0, digits), number_type);
+            assert_eq!(refused(&desk.board, &record, 128), 5);
+        }
     }
 }
 
@@ -131,6 +161,10 @@ fn leg_then_reference_then_room() {
     assert_eq!(refused(&desk.board, &open(Reference(1), 9, 0, 0, b""), 128), 7);
     assert_eq!(refused(&desk.board, &open(Reference(99), 101, 0, 0, b""), 128), 6);
     assert_eq!(refused(&desk.board, &open(Reference(99), 9, 0, 0, b""), 128), 8);
+    for (reference, leg, returned) in [(1, 101, 6), (1, 9, 7), (99, 101, 6), (99, 9, 8)] {
+        let record = typed(open(Reference(reference), leg, 0, 0, b""), 1);
+        assert_eq!(refused(&desk.board, &record, 128), returned);
+    }
     // The top bit makes another reference.
     assert_eq!(refused(&desk.board, &open(Reference(0x8001), 9, 0, 0, b""), 128), 8);
 }

@@ -34,13 +34,16 @@ fn busy() -> Desk {
 
 #[test]
 fn each_rule_of_soundness() {
-    let changes: [fn(&mut Board); 20] = [
+    let changes: [fn(&mut Board); 23] = [
         |board| board.subscribed = 2,
         |board| board.alerting = 4,
         |board| board.rows[63].leg = 1,
         |board| board.rows[63].presentation = 1,
         |board| board.rows[63].number.0[15] = 1,
         |board| board.rows[0].presentation = 2,
+        |board| board.rows[63].number_type = 1,
+        |board| board.rows[0].number_type = 3,
+        |board| board.rows[2].number_type = 255,
         |board| board.rows[0].number.0[0] = 16,
         |board| board.rows[2].number.0[0] = 2,
         |board| board.rows[2].number.0[1] = b':',
@@ -72,6 +75,22 @@ fn options_of_a_sound_board() {
         for alerting in 0..=3 {
             (board.subscribed, board.alerting) = (option, alerting);
             assert_eq!(sound(&board), option <= 1, "subscribed {option}, alerting {alerting}");
+        }
+    }
+}
+
+/// With any digits, and with none, whatever the standing.
+#[test]
+fn types_of_a_sound_board() {
+    let mut desk = busy();
+    desk.ok(&records::open(Reference(9), 900, 0, 1, b""));
+    for place in 0..6 {
+        let mut board = desk.board.clone();
+        for number_type in 0..=255 {
+            board.rows[place].number_type = number_type;
+            let highest = if board.rows[place].standing == Standing::Empty { 0 } else { 2 };
+            assert_eq!(sound(&board), number_type <= highest, "row {place}, type {number_type}");
+            assert_eq!(count(&board.rows).0 == 0, number_type <= highest);
         }
     }
 }
@@ -149,13 +168,14 @@ fn index_agrees_with_the_plain_rule() {
 
 fn disturb(rng: &mut Rng, board: &mut Board) {
     let (place, other) = (rng.below(64), rng.below(64));
-    match rng.below(7) {
+    match rng.below(8) {
         0 => board.rows[place].leg = board.rows[other].leg,
         1 => board.rows[place].standing = board.rows[other].standing,
         2 => board.rows[place] = Row::EMPTY,
         3 => board.rows[place].number.0[rng.below(16)] ^= 1 << rng.below(8),
         4 => board.rows.swap(place, other),
         5 => board.rows[place].presentation ^= 1 << rng.below(3),
+        6 => board.rows[place].number_type ^= 1 << rng.below(3),
         _ => {
             let partner = board.rows[other].leg;
             board.rows[place].standing = Standing::Joined { partner, alerts: rng.percent(50) };

@@ -1,5 +1,6 @@
 -- What the record reader's answers say.
-use Rattle.std.specs.Prelude.{ℕ, cond, List, eqb, length, Result, Ok, Err}
+use Rattle.std.specs.Prelude.{ℕ, cond, List, [], ◌∷◌, eqb, length, Result, Ok, Err, None, Option, Some}
+use denote.Ref.{Bor}
 use Rattle.octets.specs.declared.CallReference.{CallReference}
 use Rattle.board.specs.States.{valid_reference}
 use Rattle.events.specs.declared.Refusal.{Refusal}
@@ -8,6 +9,7 @@ use Rattle.events.specs.declared.records.Request.{Request as Asked}
 use Rattle.events.specs.declared.records.Request.TheVariants as asked
 use Rattle.events.specs.EventRecords.{Request, Malformed, Open, Progress, Hold, Release, Facility, Answer}
 use Rattle.events.specs.EventRecords.{LegFacility, Inform, field}
+use Rattle.events.specs.Records.{front_record, behind}
 
 -- the request that an answer stands for
 abbrev pub request_read : Result Asked Refusal → Request
@@ -20,6 +22,16 @@ request_read (Ok (asked.Facility r c)) = Facility r.0 c.now
 request_read (Ok (asked.Answer l)) = Answer l
 request_read (Ok (asked.LegFacility l n os)) = LegFacility l n os.now
 request_read (Ok (asked.Inform r c)) = Inform r.0 c.now
+
+-- the record in front of a log and the octets behind it, where the log has not ended
+abbrev pub front_split : List ℕ → Option (List ℕ × List ℕ)
+front_split [] = None
+front_split (o ∷ os) = Some (front_record (o ∷ os), behind (o ∷ os))
+
+-- the same, as they are lent
+abbrev pub record_split : Option (Bor (List ℕ) × Bor (List ℕ)) → Option (List ℕ × List ℕ)
+record_split None = None
+record_split (Some (first, later)) = Some (first.now, later.now)
 
 -- the reference, where it is in range
 abbrev pub reference_read : ℕ → Result CallReference Refusal

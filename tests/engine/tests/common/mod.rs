@@ -154,6 +154,14 @@ pub fn tell(leg: u32, message: u8, description: u8, mark: u8, request: u8, digit
     octets
 }
 
+/// A Tell record with a type.
+pub fn tell_typed(leg: u32, number_type: u8, digits: &[u8], request: u8) -> Vec<u8> {
+    let mut octets = tell(leg, 0, 0xEA, 1, request, digits);
+    octets[0] = 0x86;
+    octets.insert(9, number_type);
+    octets
+}
+
 /// A Reply record.
 pub fn reply(reference: u16, component: &[u8]) -> Vec<u8> {
     records::with_component(0x81, &reference.to_be_bytes(), component, 32)

@@ -1,0 +1,2 @@
+-- That a log and its moved form replay alike.
+pub mod Replayed

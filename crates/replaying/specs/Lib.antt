@@ -1,0 +1,2 @@
+-- What a log and its moved form lead to.
+pub mod Replaying

@@ -1,0 +1,229 @@
+//! The program that moves logs, compared with the engine's own moving: standard output octet by octet,
+//! standard error, and exit status.
+
+use std::fs::{self, File};
+use std::path::PathBuf;
+use std::process::Stdio;
+
+use crate::compare::hex;
+use crate::each_move;
+use crate::logs::steered;
+use crate::moved;
+use crate::mover::{self, Ended};
+use crate::moving::{judge, records, Way};
+use crate::near_move;
+use crate::program::{Feed, Program};
+use crate::rng::Rng;
+use crate::seen_run::{InputSeen, RunSeen};
+use crate::tally::Tally;
+
+const LOGS: usize = 2_000;
+/// Logs in small parts take long, and are few.
+const IN_PARTS: usize = 60;
+
+/// The word, and where the log comes from.
+#[derive(Clone, Copy, PartialEq, Eq, Debug)]
+pub enum Run {
+    NewInput,
+    OldInput,
+    NewFile,
+    OldFile,
+}
+
+impl Run {
+    fn of(way: Way, by_name: bool) -> Run {
+        match (way, by_name) {
+            (Way::ToNew, false) => Run::NewInput,
+            (Way::ToOld, false) => Run::OldInput,
+            (Way::ToNew, true) => Run::NewFile,
+            (Way::ToOld, true) => Run::OldFile,
+        }
+    }
+}
+
+/// What the program has for its standard input.
+pub enum Input<'a> {
+    Nothing,
+    Log(&'a [u8], Feed),
+    Open(File),
+}
+
+/// A folder of temporary files, which goes with it.
+pub struct Folder(pub PathBuf);
+
+impl Drop for Folder {
+    fn drop(&mut self) {
+        let _ = fs::remove_dir_all(&self.0);
+    }
+}
+
+pub struct Runs {
+    program: Program,
+    pub folder: Folder,
+    pub rng: Rng,
+    pub tally: Tally,
+}
+
+/// Runs the program over all logs of a seed.
+pub fn against(path: &str, seed: u64) -> Result<Tally, String> {
+    let folder = std::env::temp_dir().join(format!("moved logs {}", std::process::id()));
+    fs::create_dir(&folder).map_err(|error| format!("{}: {error}", folder.display()))?;
+    let folder = Folder(folder);
+    let mut runs =
+        Runs { program: Program::new(path, &[]), folder, rng: Rng::new(seed), tally: Tally::of_moves() };
+    let each = each_move::logs(&mut runs.rng);
+    for number in 0..LOGS {
+        let log = each.get(number).cloned().unwrap_or_else(|| runs.some_log());
+        runs.both_ways(&log, number)?;
+    }
+    runs.large()?;
+    runs.failures()?;
+    runs.words()?;
+    runs.tally.all_met()?;
+    Ok(runs.tally)
+}
+
+impl Runs {
+    fn some_log(&mut self) -> Vec<u8> {
+        let log = steered(&mut self.rng);
+        if self.rng.percent(35) {
+            log
+        } else {
+            near_move::log(&mut self.rng, &log)
+        }
+    }
+
+    fn both_ways(&mut self, log: &[u8], number: usize) -> Result<(), String> {
+        let fault = |what| format!("log {}\nthe engine is at fault\n{what}", hex(log));
+        moved::watch(log, &mut self.rng, &mut self.tally).map_err(fault)?;
+        self.tally.logs += 1;
+        self.tally.events += records(log.get(2..).unwrap_or(&[])).count() as u64;
+        Way::BOTH.into_iter().try_for_each(|way| self.either(log, way, number))
+    }
+
+    /// From standard input or by a file's name.
+    fn either(&mut self, log: &[u8], way: Way, number: usize) -> Result<(), String> {
+        let by_name = number % 3 == 1 || (number >= IN_PARTS && self.rng.percent(5));
+        self.outcome(log, way, by_name);
+        if by_name {
+            return self.by_name(log, way, Input::Nothing);
+        }
+        if number >= IN_PARTS {
+            return self.from_input(log, way, Feed::Whole);
+        }
+        let refused = judge(log, way).is_err();
+        self.tally.add(if refused { InputSeen::PartsRefused } else { InputSeen::Parts });
+        self.from_input(log, way, Feed::Parts(if number % 3 == 0 { 7 } else { 1 }))
+    }
+
+    /// Tallies what has to come of a log.
+    fn outcome(&mut self, log: &[u8], way: Way, by_name: bool) {
+        let run = Run::of(way, by_name);
+        let tally = &mut self.tally;
+        let (returned, record) = match judge(log, way) {
+            Ok(length) => {
+                tally.add((run, RunSeen::Moved));
+                tally.add_if(length != log.len(), (run, RunSeen::Turned));
+                return tally.add_if(length == 2, (run, RunSeen::Alone));
+            }
+            Err(refusal) => (refusal.returned, refusal.record),
+        };
+        match (returned, record) {
+            (_, 0) => tally.add((run, RunSeen::Options)),
+            (3, _) => tally.add((run, RunSeen::Cut)),
+            (4, _) => tally.add((run, RunSeen::Unknown)),
+            (5, _) => tally.add((run, RunSeen::Field)),
+            _ => tally.add(if by_name { InputSeen::TypedFile } else { InputSeen::Typed }),
+        }
+        tally.add_if(record == 1, (run, RunSeen::First));
+        tally.add_if((10..100).contains(&record), (run, RunSeen::Figures2));
+        tally.add_if((100..1000).contains(&record), (run, RunSeen::Figures3));
+    }
+
+    pub fn from_input(&self, log: &[u8], way: Way, feed: Feed) -> Result<(), String> {
+        let expected = mover::run(&[way.word()], log);
+        self.expect(&[way.word()], Input::Log(log, feed), log, &expected)
+    }
+
+    pub fn by_name(&self, log: &[u8], way: Way, input: Input) -> Result<(), String> {
+        let name = self.file("a log", log)?;
+        self.expect(&[way.word(), &name], input, log, &mover::moved(log, way))
+    }
+
+    /// A file in the folder with such contents; its name.
+    pub fn file(&self, name: &str, log: &[u8]) -> Result<String, String> {
+        let path = self.folder.0.join(name);
+        fs::write(&path, log).map_err(|error| format!("{}: {error}", path.display()))?;
+        Ok(path.to_string_lossy().into_owned())
+    }
+
+    /// The program does what is expected with such words and standard input; `log` is told where not.
+    pub fn expect(&self, words: &[&str], input: Input, log: &[u8], expected: &Ended) -> Result<(), String> {
+        self.expect_into(Stdio::piped(), words, input, log, expected)
+    }
+
+    pub fn expect_into(
+        &self,
+        output: Stdio,
+        words: &[&str],
+        input: Input,
+        log: &[u8],
+        expected: &Ended,
+    ) -> Result<(), String> {
+        let told = |what: String| format!("words {words:?}\nlog {}\n{what}", shown(log));
+        let ended = self.ended(output, words, input).map_err(told)?;
+        differs(expected, &ended).map_or(Ok(()), |what| Err(told(what)))
+    }
+
+    /// The same with no input, whatever the exit status.
+    pub fn expect_but_for_status(&self, words: &[&str], expected: &Ended) -> Result<(), String> {
+        let ended = self.ended(Stdio::piped(), words, Input::Nothing)?;
+        let expected = Ended { status: ended.status, ..expected.clone() };
+        differs(&expected, &ended).map_or(Ok(()), |what| Err(format!("words {words:?}\n{what}")))
+    }
+
+    fn ended(&self, output: Stdio, words: &[&str], input: Input) -> Result<Ended, String> {
+        let mut command = self.program.command(words);
+        command.stdout(output).stderr(Stdio::piped());
+        let (stdin, fed, feed) = match input {
+            Input::Nothing => (Stdio::null(), [].as_slice(), Feed::Whole),
+            Input::Log(log, feed) => (Stdio::piped(), log, feed),
+            Input::Open(file) => (Stdio::from(file), [].as_slice(), Feed::Whole),
+        };
+        command.stdin(stdin);
+        self.program.run(command, fed, feed)
+    }
+}
+
+/// A log in hex as far as a line holds it.
+fn shown(log: &[u8]) -> String {
+    const MOST: usize = 4_096;
+    match log.get(..MOST) {
+        Some(front) => format!("{}.. ({} octets)", hex(front), log.len()),
+        None => hex(log),
+    }
+}
+
+/// What of the three is not as expected, with the place of the first octet that differs.
+pub fn differs(expected: &Ended, ended: &Ended) -> Option<String> {
+    let mut lines = Vec::new();
+    if expected.status != ended.status {
+        lines.push(format!("exit status {} expected, not {}", expected.status, ended.status));
+    }
+    if expected.errors != ended.errors {
+        let [expected, errors] = [expected, ended].map(|ended| String::from_utf8_lossy(&ended.errors));
+        lines.push(format!("standard error {expected:?} expected, not {errors:?}"));
+    }
+    let (a, b) = (&expected.output, &ended.output);
+    if a != b {
+        let place = a.iter().zip(b).take_while(|(a, b)| a == b).count();
+        let [due, got] =
+            [a, b].map(|octets| octets.get(place).map_or("no octet".into(), |o| format!("{o:02x}")));
+        lines.push(format!(
+            "{} octets expected, {} came; at {place} {due} expected, not {got}",
+            a.len(),
+            b.len()
+        ));
+    }
+    (!lines.is_empty()).then(|| lines.join("\n"))
+}
