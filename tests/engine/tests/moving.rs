@@ -2,6 +2,7 @@
 
 mod common;
 
+use common::one_of_each_kind;
 use engine::board::Reference;
 use engine::event::Answer;
 use engine::logs::steered;
@@ -93,20 +94,7 @@ fn other_records_stay() {
 
 #[test]
 fn each_record_cut_at_each_place() {
-    let whole = [
-        OLD.to_vec(),
-        progress(Reference(1), 4),
-        hold(Reference(1), 1),
-        release(1),
-        facility(Reference(1), &[0xA2]),
-        answer(1),
-        leg_facility(1, &[0xA1]),
-        inform(Reference(1), &[0xA1]),
-        NEW.to_vec(),
-        new_of(1).to_vec(),
-        new_of(3).to_vec(),
-    ];
-    for record in whole {
+    for record in one_of_each_kind().into_iter().chain([0, 1, 3].map(|octet| new_of(octet).to_vec())) {
         for length in 1..record.len() {
             assert_eq!(both(&log([1, 1], &[&record[..length]])), [(3, 1); 2]);
             assert_eq!(both(&log([1, 1], &[&release(1), &OLD, &record[..length]])), [(3, 3); 2]);

@@ -2,11 +2,9 @@
 
 mod common;
 
-use common::{refused_with as refused, Desk};
+use common::{one_of_each_kind, refused_with as refused, Desk};
 use engine::board::{Board, LinkId, Reference, Row, Standing, RESTRICTED};
-use engine::records::{
-    answer, execute, facility, hold, inform, leg_facility, open, progress, release, typed,
-};
+use engine::records::{answer, execute, facility, hold, inform, open, progress, release, typed};
 
 fn unsound() -> Board {
     let (_, mut board) = Board::fresh(1, 1);
@@ -62,18 +60,7 @@ fn kind_comes_before_length() {
         assert_eq!(refused(&board, &[kind], 128), 4);
         assert_eq!(refused(&board, &[kind; 25], 128), 4);
     }
-    let whole = [
-        open(Reference(1), 1, 0, 0, b""),
-        typed(open(Reference(1), 1, 0, 0, b""), 2),
-        progress(Reference(1), 4),
-        hold(Reference(1), 1),
-        release(1),
-        facility(Reference(1), &[0xA2]),
-        answer(1),
-        leg_facility(1, &[0xA1]),
-        inform(Reference(1), &[0xA1]),
-    ];
-    for record in whole {
+    for record in one_of_each_kind() {
         for length in 1..record.len() {
             assert_eq!(refused(&board, &record[..length], 128), 3);
         }

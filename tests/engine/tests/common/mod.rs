@@ -12,6 +12,21 @@ pub const ID: &[u8] = &[0x02, 0x01, 0x05];
 /// All options of a board.
 pub const OPTIONS: [(u8, u8); 8] = [(0, 0), (0, 1), (0, 2), (0, 3), (1, 0), (1, 1), (1, 2), (1, 3)];
 
+/// One record of each kind.
+pub fn one_of_each_kind() -> [Vec<u8>; 9] {
+    [
+        records::open(Reference(1), 1, 0, 0, b""),
+        records::progress(Reference(1), 4),
+        records::hold(Reference(1), 1),
+        records::release(1),
+        records::facility(Reference(1), &[0xA2]),
+        records::answer(1),
+        records::leg_facility(1, &[0xA1]),
+        records::inform(Reference(1), &[0xA1]),
+        records::typed(records::open(Reference(1), 1, 0, 0, b""), 2),
+    ]
+}
+
 pub struct Desk {
     pub board: Board,
 }
