@@ -44,11 +44,11 @@ valid_connection (WithPartner p a) = true
 abbrev pub valid_entry : Entry → Bool
 valid_entry e = valid_connection e.connection
 
--- ---- "options are 0 or 1"; "2 for a board with one", a second option octet above 3; "the first stays 0 or 1"
--- ---- (document 02, slip 7)
+-- ---- "options are 0 or 1"; "2 for a board with one", a second option octet above 3 (document 02, slip 7); "a sound
+-- ---- board may carry 0, 1 or 2" (slip 9)
 
 abbrev pub valid_options : Options → Bool
-valid_options o = leb o.subscribed 1 && leb o.alerting 3
+valid_options o = leb o.subscribed 2 && leb o.alerting 3
 
 -- ---- "legs are distinct, references are distinct, live LinkIds are distinct and at most 16"
 

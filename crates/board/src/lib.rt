@@ -5,9 +5,12 @@ ghost use Rattle.std.specs.Prelude.{◌≡◌};
 ghost use Rattle.std.specs.Result.{result_ok};
 ghost use Rattle.board.specs.States.{direction_with, auxiliary_with, valid_reference};
 ghost use Rattle.board.specs.RuleSets.{rule_set, alerting_allowed};
+ghost use Rattle.board.specs.Subscription.{is_subscribed, is_explicit_only};
 ghost use Rattle.board.specs.Soundness.{valid_digits, valid_number, valid_options};
 ghost use Rattle.board.specs.Code.Tallies.{counts_in};
-ghost use Rattle.board.specs.Making.{empty_row, empty_board, made_answer, fresh as fresh_board};
+ghost use Rattle.board.specs.declared.OptionFault.{OptionFault};
+ghost use Rattle.board.specs.Making.{empty_row, empty_board, options, option_fault_number, made_answer};
+ghost use Rattle.board.specs.Making.{Live, ForOldLog, fresh as fresh_board};
 
 use digits::{all_digits, all_zeros};
 use octets::{CallReference, LinkId};
@@ -116,8 +119,9 @@ pub struct Row {
     pub standing: Standing,
 }
 
-// Octets, as in a PartyNumber. The second says two things: the rule set, and whether a party that still alerts is
-// transferred.
+// Octets, as in a PartyNumber. The first is 0 where the service is refused, 1 where it is served, and 2 where it is
+// served, explicit only: the operation that names one call alone is not. The second says two things: the rule set, and
+// whether a party that still alerts is transferred.
 #[derive(Clone, Copy, Debug)]
 pub struct Options {
     pub subscribed: u8,
@@ -132,6 +136,18 @@ pub enum RuleSet {
 }
 
 impl Options {
+    pub fn is_subscribed(self) -> bool
+        ensures { result ≡ is_subscribed self }
+    {
+        matches!(self.subscribed, 1 | 2)
+    }
+
+    pub fn is_explicit_only(self) -> bool
+        ensures { result ≡ is_explicit_only self }
+    {
+        self.subscribed == 2
+    }
+
     pub fn rule_set(self) -> RuleSet
         ensures { result ≡ rule_set self }
     {
@@ -192,10 +208,32 @@ pub enum Change {
     ReleasePair(u32, u32),
 }
 
-// The refusal to make a board, an option being outside its range. It brings the empty board with both options 0.
+// Why a board is not made. Implicit linkage is the transfer that names one call: it is retired on live boards.
+#[derive(Clone, Copy, Debug, PartialEq, Eq, Error)]
+pub enum OptionFault {
+    #[error("an option is outside its range")]
+    OutsideItsRange,
+    #[error("implicit linkage is retired")]
+    ImplicitLinkage,
+}
+
+// The number that a refusal to make a board is returned as.
+impl From<OptionFault> for u8 {
+    ghost from_gives = { λ fault number. number ≡ option_fault_number fault };
+
+    fn from(fault: OptionFault) -> u8 {
+        match fault {
+            OptionFault::OutsideItsRange => 5,
+            OptionFault::ImplicitLinkage => 14,
+        }
+    }
+}
+
+// The refusal to make a board. It brings the empty board with both options 0, whatever the octets were.
 #[derive(Clone, Copy, Debug, Error)]
-#[error("an option is outside its range")]
+#[error("{fault}")]
 pub struct BadOptions {
+    pub fault: OptionFault,
     pub board: Board,
 }
 
@@ -283,17 +321,40 @@ pub fn valid_number(number: PartyNumber) -> bool
         && valid_digits(number.count, &number.digits)
 }
 
-// The first is 0 or 1, the second 0 to 3.
+// The first is 0 to 2, the second 0 to 3.
 pub fn valid_options(options: Options) -> bool
     ensures { result ≡ valid_options options }
 {
-    options.subscribed <= 1 && options.alerting <= 3
+    options.subscribed <= 2 && options.alerting <= 3
 }
 
-// A fresh board of two option octets.
+fn bad_options(fault: OptionFault) -> BadOptions
+    ensures { result ≡ record { fault = fault; board = empty_board (options 0 0) } }
+{
+    let board = empty_board(Options {
+        subscribed: 0,
+        alerting: 0,
+    });
+    BadOptions { fault, board }
+}
+
+// A fresh live board of two option octets, as an exchange makes it: a first octet 1 is refused before the second is
+// judged.
 #[tactic(auto, unfolding(crate::specs::Making::fresh))]
 pub fn fresh(subscribed: u8, alerting: u8) -> Result<Board, BadOptions>
-    ensures { made_answer result ≡ fresh_board subscribed alerting }
+    ensures { made_answer result ≡ fresh_board Live subscribed alerting }
+{
+    if subscribed == 1 {
+        return Err(bad_options(OptionFault::ImplicitLinkage));
+    }
+    fresh_for_old_log(subscribed, alerting)
+}
+
+// A fresh board of the option octets of a stored log, as a reader of logs makes it: a first octet 1 is taken, and means
+// what it meant.
+#[tactic(auto, unfolding(crate::specs::Making::fresh))]
+pub fn fresh_for_old_log(subscribed: u8, alerting: u8) -> Result<Board, BadOptions>
+    ensures { made_answer result ≡ fresh_board ForOldLog subscribed alerting }
 {
     let options = Options {
         subscribed,
@@ -302,10 +363,5 @@ pub fn fresh(subscribed: u8, alerting: u8) -> Result<Board, BadOptions>
     if valid_options(options) {
         return Ok(empty_board(options));
     }
-    Err(BadOptions {
-        board: empty_board(Options {
-            subscribed: 0,
-            alerting: 0,
-        }),
-    })
+    Err(bad_options(OptionFault::OutsideItsRange))
 }

@@ -1,4 +1,4 @@
--- Demand 3 over the contracts: of the board that `board::fresh` returned, and of what every chain of calls of `step` returned and left in its buffers.
+-- Demand 3 over the contracts: of the board that either opening returned, `board::fresh` or `fresh_for_old_log`, and of what every chain of calls of `step` returned and left in its buffers.
 use Prim.{tt}
 use Rattle.std.specs.Prelude.{Result}
 use Prim.Native.Nat.{ℕ}
@@ -14,7 +14,7 @@ use Rattle.octets.proofs.Lent.{lent, lent_shared}
 use Rattle.octets.proofs.Lists.{is_true, is_not}
 use Rattle.board.specs.declared.Board.{Board}
 use Rattle.board.specs.declared.BadOptions.{BadOptions}
-use Rattle.board.specs.Making.{Made, made_answer, fresh}
+use Rattle.board.specs.Making.{Opening, Live, ForOldLog, Made, made_answer, fresh}
 use Rattle.rules.specs.Book.{fresh_book}
 use Rattle.rules.specs.History.{stepped, returns, board_at, accepted}
 use Rattle.rules.specs.Replies.{error_octets, octets}
@@ -24,8 +24,9 @@ use Rattle.rules.proofs.WholeHistory.{whole_history}
 use Rattle.ect.specs.CallHistory.{StepCall, CallHistory, last_board, number_returned, written, event_of, events}
 use Rattle.ect.specs.Contract.{OutcomeOf, answer_count}
 use Rattle.ect.specs.declared.Stepped.{Stepped}
-use Rattle.board.proofs.Promises.{fresh_promise}
+use Rattle.board.proofs.Promises.{fresh_promise, fresh_for_old_log_promise}
 use Rattle.board.proofs.fresh.Reads as fresh-contract
+use Rattle.board.proofs.fresh_for_old_log.Reads as fresh-for-old-log-contract
 use Rattle.ect.proofs.step.Reads as step-contract
 
 -- ---- the premise
@@ -89,11 +90,20 @@ returned_numbers b (c ∷ cs) h =
 abbrev pub board_in : Result Board BadOptions → Board
 board_in made = (made_answer made).board
 
--- for all option octets, whatever `fresh` returned by its contract, and for every chain of calls that begins with the board in it
-pub calls_history : (s a : ℕ) (made : Result Board BadOptions) → fresh-contract.Post tt (s, (a, tt)) made (s, (a, tt)) →
-    (calls : List StepCall) → Chain (board_in made) calls → CallHistory (board_in made) (fresh_book s a) calls
-calls_history s a made f calls h =
-    let w = whole_history s a (events calls) in
+-- making a board gave this by the contract of the opening
+abbrev pub OpeningContractMet : Opening → ℕ → ℕ → Result Board BadOptions → Type 0
+OpeningContractMet Live s a made = fresh-contract.Post tt (s, (a, tt)) made (s, (a, tt))
+OpeningContractMet ForOldLog s a made = fresh-for-old-log-contract.Post tt (s, (a, tt)) made (s, (a, tt))
+
+opening_promise : (way : Opening) (s a : ℕ) (made : Result Board BadOptions) → OpeningContractMet way s a made → made_answer made ≡ fresh way s a
+opening_promise Live s a made f = fresh_promise s a made f
+opening_promise ForOldLog s a made f = fresh_for_old_log_promise s a made f
+
+-- for either opening and all option octets, whatever it returned by its contract, and for every chain of calls that begins with the board in it
+pub calls_history : (way : Opening) (s a : ℕ) (made : Result Board BadOptions) → OpeningContractMet way s a made →
+    (calls : List StepCall) → Chain (board_in made) calls → CallHistory (board_in made) (fresh_book way s a) calls
+calls_history way s a made f calls h =
+    let w = whole_history way s a (events calls) in
     record {
       refusals = numbers_are ∙ w.refusals;
       history_is = ap (λ (ns : List ℕ). accepted ns (events calls)) numbers_are ∙ w.history_is;
@@ -108,11 +118,11 @@ calls_history s a made f calls h =
       sound_board = rw board_at_lem w.sound_board;
     }
   where
-    board_at_lem : last_board (board_in made) calls ≡ board_at (fresh s a).board (events calls)
-    board_at_lem = last_board_lem (board_in made) calls h ∙ ap (λ (m : Made). board_at m.board (events calls)) (fresh_promise s a made f)
+    board_at_lem : last_board (board_in made) calls ≡ board_at (fresh way s a).board (events calls)
+    board_at_lem = last_board_lem (board_in made) calls h ∙ ap (λ (m : Made). board_at m.board (events calls)) (opening_promise way s a made f)
 
-    numbers_are : map number_returned calls ≡ returns (fresh s a).board (events calls)
-    numbers_are = returned_numbers (board_in made) calls h ∙ ap (λ (m : Made). returns m.board (events calls)) (fresh_promise s a made f)
+    numbers_are : map number_returned calls ≡ returns (fresh way s a).board (events calls)
+    numbers_are = returned_numbers (board_in made) calls h ∙ ap (λ (m : Made). returns m.board (events calls)) (opening_promise way s a made f)
 
     at : (pre post : List StepCall) (c : StepCall) → calls ≡ pre ++ (c ∷ post) → StepContractMet (last_board (board_in made) pre) c
     at pre post c p = met_at (board_in made) pre post c (subst (Chain (board_in made)) p h)

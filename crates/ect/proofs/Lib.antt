@@ -5,3 +5,4 @@ pub mod OneAnswer
 pub mod PassedOn
 pub mod Informed
 pub mod OldConsole
+pub mod AlikeButForExecute

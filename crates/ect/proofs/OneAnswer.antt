@@ -22,7 +22,7 @@ use Rattle.ect.specs.Contract.{answer_number, answer_count}
 use Rattle.ect.proofs.CallHistory.{StepContractMet, outcome, replies_are}
 
 -- number and count say which answer it is
-same_answer : (a c : Result ℕ Refusal) → answer_number a ≡ answer_number c → answer_count a ≡ answer_count c → a ≡ c
+pub same_answer : (a c : Result ℕ Refusal) → answer_number a ≡ answer_number c → answer_count a ≡ answer_count c → a ≡ c
 same_answer (Ok n) (Ok m) e f = ap Ok f
 same_answer (Ok n) (Err d) e f = absurd (omega (arith, e, refusal_not_zero d))
 same_answer (Err d) (Ok n) e f = absurd (omega (arith, e, refusal_not_zero d))

@@ -1,3 +1,4 @@
 pub mod Contract
 pub mod CallHistory
+pub mod AlikeButForExecute
 pub mod Code

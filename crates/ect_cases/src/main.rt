@@ -1,6 +1,6 @@
-// Runs cases and prints a line for each: every refusal of `step`, an Inform, a transfer with a subaddress passed on,
-// one of a number with a type, one by American rules, README's sample, invokes that are written and read back,
-// integers that are padded or not, and forms of subaddresses.
+// Runs cases and prints a line for each: every refusal of `step`, an Inform, transfers on boards for old logs, one with
+// a subaddress passed on and one of a number with a type, on live boards one explicit only and one by American rules,
+// README's sample, invokes that are written and read back, integers that are padded or not, and forms of subaddresses.
 #![tactic(auto)]
 
 use board::{Board, Direction, Options};
@@ -62,7 +62,7 @@ fn before_the_board(rt: &impl Print, fresh: Board) -> io::Result<()> {
         ect::step(fresh, &event, &mut small),
     )?;
     let options = Options {
-        subscribed: 2,
+        subscribed: 3,
         alerting: 0,
     };
     let bad = Board { options, ..fresh };
@@ -121,15 +121,15 @@ fn informing(rt: &impl Print, fresh: Board) -> io::Result<()> {
 }
 
 fn main(rt: HostRuntime) -> io::Result<()> {
-    let fresh = match board::fresh(1, 1) {
+    let fresh = match board::fresh(2, 1) {
         Ok(fresh) => fresh,
         Err(refused) => return println!(&rt; "{refused}"),
     };
     before_the_board(&rt, fresh)?;
     on_the_board(&rt, fresh)?;
     informing(&rt, fresh)?;
-    transfer::ward_transfer(&rt, fresh)?;
-    transfer::international_transfer(&rt, fresh)?;
+    transfer::of_an_old_log(&rt)?;
+    transfer::explicit_transfer(&rt, fresh)?;
     transfer::american_transfer(&rt)?;
     sample::sample(&rt)?;
     invoking::written_and_read(&rt)?;

@@ -10,7 +10,8 @@ use soundness::count;
 use std::io;
 
 pub fn sample(rt: &impl Print) -> io::Result<()> {
-    let fresh = match board::fresh(1, 1) {
+    // Both calls are named, and a party that still alerts may be transferred.
+    let fresh = match board::fresh(2, 1) {
         Ok(fresh) => fresh,
         Err(refused) => return println!(rt; "{refused}"),
     };

@@ -1,12 +1,13 @@
-// How an exchange calls `step`: a held call and an alerting one are transferred to each other, the ward's subaddress
-// is passed on, and the ward answers; a number is told with its type; by American rules the call is not held, and the
-// ward is told when it answers.
+// How `step` is called. As stored logs have it, on boards for old logs: EctExecute transfers a held call and an
+// alerting one to each other, the ward's subaddress is passed on, and the ward answers; a number is told with its type.
+// As an exchange has it, on live boards: both calls are named; by American rules the call is not held, and the ward is
+// told when it answers.
 use crate::records::{execute, execute_explicitly, leg_facility, open, request, typed_open};
 use crate::show::Replied;
 use board::{Board, Direction};
 use std::io;
 
-// One event: the exchange sends what was written, and goes on with the board that it gets.
+// One event: what was written is sent, and the next event gets the board that came back.
 fn event(rt: &impl Print, board: Board, octets: &[u8]) -> io::Result<Board> {
     let mut reply = [0u8; 128];
     let stepped = ect::step(board, octets, &mut reply);
@@ -22,7 +23,7 @@ fn each(rt: &impl Print, fresh: Board, events: &[&[u8]]) -> io::Result<()> {
     Ok(())
 }
 
-pub fn ward_transfer(rt: &impl Print, fresh: Board) -> io::Result<()> {
+fn ward_transfer(rt: &impl Print, fresh: Board) -> io::Result<()> {
     // A call is answered and held, the ward alerts, and EctExecute joins the two; of the ward's two Leg facilities the
     // first is passed on and the second refused; the ward answers.
     let events: [&[u8]; 10] = [
@@ -40,7 +41,7 @@ pub fn ward_transfer(rt: &impl Print, fresh: Board) -> io::Result<()> {
     each(rt, fresh, &events)
 }
 
-pub fn international_transfer(rt: &impl Print, fresh: Board) -> io::Result<()> {
+fn international_transfer(rt: &impl Print, fresh: Board) -> io::Result<()> {
     // A type of number that there is not is refused; the ward is told a number with its type, the caller one of type 0.
     let events: [&[u8]; 8] = [
         &typed_open(1, 1, Direction::Incoming, 3, *b"21"),
@@ -55,8 +56,33 @@ pub fn international_transfer(rt: &impl Print, fresh: Board) -> io::Result<()> {
     each(rt, fresh, &events)
 }
 
+pub fn of_an_old_log(rt: &impl Print) -> io::Result<()> {
+    let fresh = match board::fresh_for_old_log(1, 1) {
+        Ok(fresh) => fresh,
+        Err(refused) => return println!(rt; "{refused}"),
+    };
+    ward_transfer(rt, fresh)?;
+    international_transfer(rt, fresh)
+}
+
+pub fn explicit_transfer(rt: &impl Print, fresh: Board) -> io::Result<()> {
+    // EctExecute is rejected on a live board; the ward's LinkId, named on the held call, joins the two.
+    let events: [&[u8]; 9] = [
+        &open(1, 1, Direction::Incoming, *b"21"),
+        b"\x02\x00\x01\x0a",
+        b"\x03\x00\x01\x01",
+        b"\x03\x00\x01\x02",
+        &open(2, 2, Direction::Outgoing, *b"22"),
+        b"\x02\x00\x02\x04",
+        &execute(1),
+        &request(2),
+        &execute_explicitly(1, 0),
+    ];
+    each(rt, fresh, &events)
+}
+
 pub fn american_transfer(rt: &impl Print) -> io::Result<()> {
-    let fresh = match board::fresh(1, 3) {
+    let fresh = match board::fresh(2, 3) {
         Ok(fresh) => fresh,
         Err(refused) => return println!(rt; "{refused}"),
     };

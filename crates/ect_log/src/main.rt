@@ -8,7 +8,7 @@ mod log;
 
 ghost use Rattle.std.specs.Prelude.{◌≤◌, length, IfSome};
 
-use board::{Board, fresh};
+use board::{Board, fresh_for_old_log};
 use log::{Log, PIECE};
 use playing::{Pause, Played, play};
 use soundness::count;
@@ -30,7 +30,8 @@ fn read_more(rt: &(impl Input + Eprint), log: &mut Log) -> bool {
     }
 }
 
-// The first board, by the two option octets, which may come one by one; `None` where they are bad or missing.
+// The first board, by the two option octets, which may come one by one, and the opening for old logs; `None` where they
+// are bad or missing.
 fn read_options(rt: &(impl Input + Eprint), log: &mut Log) -> Option<Board> {
     if read_more(rt, log) && log.unplayed().len() == 1 {
         read_more(rt, log);
@@ -39,7 +40,7 @@ fn read_options(rt: &(impl Input + Eprint), log: &mut Log) -> Option<Board> {
         return None;
     };
     log.played(2);
-    fresh(subscribed, alerting).ok()
+    fresh_for_old_log(subscribed, alerting).ok()
 }
 
 // Writes the line in front of a text.

@@ -11,6 +11,7 @@ moving_examples = record {
   to_new = refl;
   to_old = refl;
   options_alone = refl;
+  explicit_only = refl;
   options_missing = refl;
   options_bad = refl;
   type_before_unknown = refl;

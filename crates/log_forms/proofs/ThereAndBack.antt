@@ -15,8 +15,7 @@ use Rattle.std.specs.Prelude.{None, Option, Some, Result, Ok, is_none}
 use Rattle.octets.proofs.Lent.{lent, lent_shared}
 use Rattle.octets.proofs.Lists.{left, right, is_not, true_not_false}
 use Rattle.octets.specs.Lists.{all}
-use Rattle.board.specs.Making.{options}
-use Rattle.board.specs.Soundness.{valid_options}
+use Rattle.board.specs.Making.{ForOldLog, options, takes}
 use Rattle.events.specs.Records.{records}
 use Rattle.events.proofs.LogRecords.{records_are_the_log}
 use Rattle.log_forms.specs.declared.Form.{Form}
@@ -58,7 +57,7 @@ record Accepted (form : Form) (log : List ℕ) (r : Result ℕ NotMoved) (after 
   octets : take (answer_count r) after ≡ moved_octets form log
 
 module _ (form : Form) (s a : ℕ) (later before after : List ℕ) (r : Result ℕ NotMoved) where
-  accepted : valid_options (options s a) ≡ true → first_bad form 0 (records later) ≡ None → length (moved_octets form (s ∷ a ∷ later)) ≤ length before
+  accepted : takes ForOldLog (options s a) ≡ true → first_bad form 0 (records later) ≡ None → length (moved_octets form (s ∷ a ∷ later)) ≤ length before
       → Moves (moved_log form (s ∷ a ∷ later) (length before)) before r after → Accepted form (s ∷ a ∷ later) r after
   unfolding moved_log moved_behind
   accepted v g h m =
@@ -90,8 +89,8 @@ both_ways [] before after log_2 before_2 after_2 r r_2 m m_2 g n room is room_2 
 both_ways (s ∷ []) before after log_2 before_2 after_2 r r_2 m m_2 g n room is room_2 = absurd (true_not_false g refl)
 both_ways (s ∷ a ∷ later) before after log_2 before_2 after_2 r r_2 m m_2 g n room is room_2 =
     let rs = records later in
-    let v = left (valid_options (options s a)) _ g in
-    let f = none_is (first_bad New 0 rs) (right (valid_options (options s a)) _ g) in
+    let v = left (takes ForOldLog (options s a)) _ g in
+    let f = none_is (first_bad New 0 rs) (right (takes ForOldLog (options s a)) _ g) in
     let x = accepted New s a later before after r v f room m in
     let e : log_2 ≡ s ∷ a ∷ moved_records New rs = is ∙ x.octets in
     let ms : records (moved_records New rs) ≡ map new_record rs = records_moved New 0 rs f in

@@ -29,9 +29,11 @@ pub record MovingExamples : Type 0 where
   pub to_new : moved New (open_1 ++ open_9 2) 54 ≡ Ok (1 ∷ 0 ∷ (open_9 0 ++ open_9 2))
   pub to_old : moved Old (open_9 0 ++ open_1) 52 ≡ Ok (1 ∷ 0 ∷ (open_1 ++ open_1))
   pub options_alone : moved New [] 2 ≡ Ok (1 ∷ 0 ∷ [])
+  -- "a separate opening for old logs takes 0, 1 or 2" (slip 9)
+  pub explicit_only : moved_log New (2 ∷ 3 ∷ []) 2 ≡ Ok (2 ∷ 3 ∷ [])
   -- "5 for missing or bad option octets"
   pub options_missing : moved_log New (1 ∷ []) 99 ≡ Err BadOptions
-  pub options_bad : moved_log Old (2 ∷ 0 ∷ open_1) 99 ≡ Err BadOptions
+  pub options_bad : moved_log Old (3 ∷ 0 ∷ open_1) 99 ≡ Err BadOptions
   -- "3, 4 and 5 at the first bad record, where on the way back an event 9 of type 1 or 2 is bad too and gives 13 if it
   -- has none of those three"
   pub type_before_unknown : moved Old (open_9 1 ++ (0 ∷ [])) 99 ≡ bad 1 NoOldForm

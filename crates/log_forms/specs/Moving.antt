@@ -2,8 +2,7 @@
 use Rattle.std.specs.Prelude.{ℕ, ◌+◌, cond, List, [], ◌∷◌, ◌++◌, eqb, leb, length, take, drop, get_or, None, Option, Some}
 use Rattle.std.specs.Prelude.{Result, Ok, Err}
 use Rattle.board.specs.declared.PartyNumber.{PartyNumber}
-use Rattle.board.specs.Making.{options}
-use Rattle.board.specs.Soundness.{valid_options}
+use Rattle.board.specs.Making.{ForOldLog, options, takes}
 use Rattle.events.specs.EventRecords.{Request, request, Malformed, Open, Progress, Hold, Release, Facility, Answer}
 use Rattle.events.specs.EventRecords.{LegFacility, Inform}
 use Rattle.events.specs.Records.{records}
@@ -81,9 +80,9 @@ unless_bad (Some bad) moved = Err (not_moved.Bad bad)
 unfoldable pub moved_behind : Form → List ℕ → List (List ℕ) → ℕ → Result (List ℕ) NotMoved
 moved_behind form front rs room = unless_bad (first_bad form 0 rs) (fitting room (front ++ moved_records form rs))
 
--- "5 for missing or bad option octets, then .."
+-- "5 for missing or bad option octets, then .."; "slips 8 and 11 judge options by the opening for old logs" (slip 9)
 unfoldable pub moved_log : Form → List ℕ → ℕ → Result (List ℕ) NotMoved
 moved_log form [] room = Err not_moved.BadOptions
 moved_log form (s ∷ []) room = Err not_moved.BadOptions
 moved_log form (s ∷ (a ∷ later)) room =
-    cond (valid_options (options s a)) (moved_behind form (s ∷ a ∷ []) (records later) room) (Err not_moved.BadOptions)
+    cond (takes ForOldLog (options s a)) (moved_behind form (s ∷ a ∷ []) (records later) room) (Err not_moved.BadOptions)

@@ -1,8 +1,7 @@
 -- What is claimed of a log moved there and back (document 02, slip 8).
 use Rattle.std.specs.Prelude.{ℕ, Bool, false, ◌&&◌, not, ◌≡◌, List, [], ◌∷◌, ◌++◌, eqb, get_or, is_none}
 use Rattle.octets.specs.Lists.{all}
-use Rattle.board.specs.Making.{options}
-use Rattle.board.specs.Soundness.{valid_options}
+use Rattle.board.specs.Making.{ForOldLog, options, takes}
 use Rattle.events.specs.Records.{records}
 use Rattle.log_forms.specs.declared.Form.{Form}
 use Rattle.log_forms.specs.declared.Form.TheVariants.{New}
@@ -13,7 +12,7 @@ use Rattle.log_forms.specs.MoveCalls.{MoveCall, option_octets, behind_options, m
 abbrev pub good : List ℕ → Bool
 good [] = false
 good (s ∷ []) = false
-good (s ∷ (a ∷ later)) = valid_options (options s a) && is_none (first_bad New 0 (records later))
+good (s ∷ (a ∷ later)) = takes ForOldLog (options s a) && is_none (first_bad New 0 (records later))
 
 -- "provided it held no event 9"
 abbrev pub no_event_9 : List ℕ → Bool

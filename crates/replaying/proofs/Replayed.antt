@@ -8,8 +8,7 @@ use lib.Dec.{leb}
 use lib.Seq.{take_at}
 use lib.ListN.{length, take, drop}
 use Rattle.std.specs.Prelude.{None, Option, Some, Result, Ok, Err}
-use Rattle.board.specs.Making.{options}
-use Rattle.board.specs.Soundness.{valid_options}
+use Rattle.board.specs.Making.{ForOldLog, options, takes}
 use Rattle.log_forms.specs.declared.Form.TheVariants.{Old, New}
 use Rattle.board.specs.declared.Board.{Board}
 use Rattle.events.specs.EventRecords.{request}
@@ -106,7 +105,7 @@ module _ (form : Form) (before after : List ℕ) (r : Result ℕ NotMoved) (z : 
   unfolding moved_log moved_behind
   was_moved [] m = refused BadOptions m
   was_moved (s ∷ []) m = refused BadOptions m
-  was_moved (s ∷ a ∷ later) m = go (valid_options (options s a)) (first_bad form 0 (records later)) (leb (length os) (length before)) refl m
+  was_moved (s ∷ a ∷ later) m = go (takes ForOldLog (options s a)) (first_bad form 0 (records later)) (leb (length os) (length before)) refl m
     where
       os : List ℕ
       os = s ∷ a ∷ moved_records form (records later)

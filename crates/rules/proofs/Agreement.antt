@@ -1,5 +1,5 @@
 -- Board and book stay together from event to event.
-use Rattle.std.specs.Prelude.{Option}
+use Rattle.std.specs.Prelude.{None, Option, Some}
 use Prim.Native.Nat.{ℕ}
 use mathlib.Core.Path.{◌∙◌, ◌≡◌, refl, ap, ap₂, subst, subst⁻¹}
 use mathlib.Core.Bool.{true, Bool, cond, false}
@@ -9,14 +9,14 @@ use lib.ListN.{length, get_or, drop}
 use Rattle.board.proofs.SoundEntries.{Sound, of_sound, sound_perm, sound_of}
 use Rattle.board.specs.Changes.{full}
 use Rattle.board.specs.Entries.{taken}
-use Rattle.board.specs.Making.{Made, options, fresh, empty_board, making_refused}
+use Rattle.board.specs.Making.{Opening, Live, ForOldLog, options, making_refusal, made, fresh, empty_board}
 use Rattle.board.specs.Soundness.{valid_row, valid_options, sound, sound_rows, sound_entries}
 use Rattle.board.specs.declared.Board.{Board}
 use Rattle.board.specs.declared.Options.{Options}
 use Rattle.rules.proofs.Kept.{kept}
 use Rattle.rules.proofs.Order.{decide_perm}
 use Rattle.rules.proofs.Rows.{full_is, candidate_same, after_perm, rows_length, rows_right, Fine, fine, view}
-use Rattle.rules.specs.Book.{Book, book_rules, book_after, candidate_moves, entries_after, book_decision, fresh_book, empty_book, book_step}
+use Rattle.rules.specs.Book.{Book, book_rules, book_after, candidate_moves, entries_after, book_decision, fresh_book, fed_options, empty_book, book_step}
 use Rattle.rules.specs.Checks.{BoardChange, decide, Decision, returned_by, change_of, Refuse}
 use Rattle.events.specs.Refusals.{refusal_number}
 use Rattle.events.specs.Records.{body_length}
@@ -152,13 +152,27 @@ empty_together o h = record {
   options_are = h;
 }
 
-pub begun : (s a : ℕ) → Together (fresh s a).board (fresh_book s a)
-unfolding fresh fresh_book
-begun s a = go (valid_options (options s a)) refl
+-- where an opening refuses nothing the options are in range
+pub opened_valid : (way : Opening) (o : Options) → making_refusal way o ≡ None → valid_options o ≡ true
+opened_valid Live o = by_first (eqb o.subscribed 1) (valid_options o)
   where
-    go : (x : Bool) → valid_options (options s a) ≡ x → Together (cond {A = Made} x (record { returned = 0; board = empty_board (options s a) }) making_refused).board (cond {A = Book} x (empty_book (options s a)) (empty_book (options 0 0)))
-    go true h = empty_together (options s a) h
-    go false h = empty_together (options 0 0) refl
+    by_first : (x v : Bool) → cond {A = Option ℕ} x (Some 14) (cond v None (Some 5)) ≡ None → v ≡ true
+    by_first x true e = refl
+    by_first true false e = cc
+    by_first false false e = cc
+opened_valid ForOldLog o = by_options (valid_options o)
+  where
+    by_options : (v : Bool) → cond {A = Option ℕ} v None (Some 5) ≡ None → v ≡ true
+    by_options true e = refl
+    by_options false e = cc
+
+pub begun : (way : Opening) (s a : ℕ) → Together (fresh way s a).board (fresh_book way s a)
+unfolding fresh fresh_book
+begun way s a = go (making_refusal way (options s a)) refl
+  where
+    go : (r : Option ℕ) → making_refusal way (options s a) ≡ r → Together (made (options s a) r).board (empty_book (fed_options (options s a) r))
+    go None h = empty_together (options s a) (opened_valid way (options s a) h)
+    go (Some n) h = empty_together (options 0 0) refl
 
 -- ---- whole lists
 

@@ -38,6 +38,5 @@ american_situations = record {
   answered = refl;
   made_with_3 = refl;
   refused_with_4 = refl;
-  refused_with_first_2 = refl;
   board_with_4 = refl;
 }

@@ -34,6 +34,7 @@ use Rattle.rules.proofs.Forms.{Writes, silent as silent_form, reply, of_transfer
 use Rattle.board.specs.declared.Change.TheVariants as change
 use Rattle.events.specs.Refusals.{refusal_number}
 use Rattle.events.specs.EventRecords.{Answer, Request, Open, Progress, Hold, Release, Facility, LegFacility, Inform, Malformed, in_range, valid_component}
+use Rattle.board.specs.Subscription.{is_subscribed}
 use Rattle.rules.specs.Serving.{Service, Silent, Respond, assign, AssignLinkId, partner_for, Transfer, execute, execute_explicitly, error, new_link_id, link_id_request, perform, is_served, serve}
 use Rattle.events.specs.declared.Refusal.{Refusal}
 use Rattle.octets.proofs.Lists.{filter_mem, only_mem, find_mem, eqb_eq, left}
@@ -87,7 +88,7 @@ module _ (opt : Options) (z : ℤ) (ps : List Party) (p : Party) where
   unfolding serve
   served_is Ignored = silent
   served_is (Rejected r) = respond _
-  served_is (Invoked i op) = go (is_served (rule_set opt) op) (eqb opt.subscribed 1)
+  served_is (Invoked i op) = go (is_served opt op) (is_subscribed opt)
     where
       go : (a b : Bool) → ComesTo (cond a (cond b (perform opt z ps p i op) (error i 0)) (Respond (answer.Rejected (Invoke i 1))))
       go true true = perform_is i op

@@ -15,8 +15,10 @@ pub mod SoundKept
 pub mod WholeHistory
 pub mod Room
 pub mod OldConsole
+pub mod AlikeButForExecute
 pub mod Situations
 pub mod AmericanSituations
+pub mod ExplicitOnly
 pub mod SingleEvents
 pub mod PassedOn
 pub mod Informed

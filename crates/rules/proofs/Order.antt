@@ -71,7 +71,7 @@ serve_perm : {l m : List Entry} → Sound l → Perm l m → (opt : Options) (z 
 unfolding serve
 serve_perm v h opt z p Ignored = refl
 serve_perm v h opt z p (Rejected i) = refl
-serve_perm v h opt z p (Invoked i o) = ap (λ (s : Service). if_served (rule_set opt) o i (if_subscribed opt i s)) (perform_perm v h opt z p i o)
+serve_perm v h opt z p (Invoked i o) = ap (λ (s : Service). if_served opt o i (if_subscribed opt i s)) (perform_perm v h opt z p i o)
 
 named_perm : {l m : List Entry} → Sound l → Perm l m → (r : ℕ) → named r l ≡ named r m
 named_perm v h r = find_perm (has_party_reference r) (filter_map_perm (λ (e : Entry). party_of e.leg e.connection) h) (calls_one r v)

@@ -8,16 +8,15 @@ use mathlib.Core.List.{◌++◌, ◌∷◌, List, [], append_assoc}
 use lib.Dec.{eqb, T}
 use Rattle.board.specs.declared.Connection.TheVariants.{WithUser}
 use Rattle.board.specs.Entries.{has_leg}
-use Rattle.board.specs.Making.{Made, options, empty_board, making_refused, fresh}
-use Rattle.board.specs.Soundness.{valid_options}
+use Rattle.board.specs.Making.{options, making_refusal, made, empty_board, fresh}
 use Rattle.board.specs.declared.Board.{Board}
 use Rattle.board.specs.declared.Call.{Call}
 use Rattle.board.specs.declared.Options.{Options}
-use Rattle.rules.proofs.Agreement.{Together, next, played_together, empty_together, same_returns, sound_together}
+use Rattle.rules.proofs.Agreement.{Together, next, played_together, empty_together, opened_valid, same_returns, sound_together}
 use Rattle.rules.proofs.Errors.{untouched_step, unharmed, octets_error}
 use Rattle.rules.proofs.Partner.{has_row, Shape, partner_of, shaped_list, book_at_append, opened_next, shaped_next, call_stays, joined_stays, joins_some, still_there, alive_stays, shape_there, partner_rows, call_row}
 use Rattle.rules.proofs.Presence.{nil_is_no_split, LivesIn, lives, opens_at, ends_at, lives_is, lives_from, Unended, seen_next, together_sound, lives_to}
-use Rattle.rules.specs.Book.{Book, book_after, entries_after, candidate_moves, book_step, book_decision, fresh_book, empty_book}
+use Rattle.rules.specs.Book.{Book, book_after, entries_after, candidate_moves, book_step, book_decision, fresh_book, fed_options, empty_book}
 use Rattle.rules.specs.Checks.{Decision, returned_by, change_of, Refuse, Accept}
 use Rattle.events.specs.EventRecords.{request}
 use Rattle.rules.specs.History.{history, booked, Event, accepts, stepped, book_at, board_at, book_returns, accepted, opens, ends, Lives, ends_leg, Agree, transfer_of, joined_by, on_board, Partners, HasRow, WholeHistory, Demand3Of, Demand3}
@@ -283,9 +282,8 @@ whole_history_of o v list = from_empty (empty_board o) (empty_book o) (empty_tog
 
 pub whole_history : Demand3
 unfolding fresh fresh_book
-whole_history s a list = go (valid_options (options s a)) refl
+whole_history way s a list = go (making_refusal way (options s a)) refl
   where
-    go : (x : Bool) → valid_options (options s a) ≡ x →
-        WholeHistory (cond {A = Made} x (record { returned = 0; board = empty_board (options s a) }) making_refused).board (cond {A = Book} x (empty_book (options s a)) (empty_book (options 0 0))) list
-    go true h = whole_history_of (options s a) (from_true h) list
-    go false h = whole_history_of (options 0 0) tt list
+    go : (r : Option ℕ) → making_refusal way (options s a) ≡ r → WholeHistory (made (options s a) r).board (empty_book (fed_options (options s a) r)) list
+    go None h = whole_history_of (options s a) (from_true (opened_valid way (options s a) h)) list
+    go (Some n) h = whole_history_of (options 0 0) tt list

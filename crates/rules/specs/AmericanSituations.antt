@@ -7,7 +7,7 @@ use Rattle.board.specs.declared.CallState.TheVariants.{CallDelivered, Active}
 use Rattle.board.specs.declared.AuxiliaryState.TheVariants.{Idle, HoldRequest, CallHeld, RetrieveRequest}
 use Rattle.board.specs.declared.RuleSet.TheVariants.{American}
 use Rattle.board.specs.declared.Board.{Board}
-use Rattle.board.specs.Making.{fresh, empty_board, options}
+use Rattle.board.specs.Making.{Live, ForOldLog, fresh, empty_board, options}
 use Rattle.rules.specs.Pairing.{verdict}
 use Rattle.rules.specs.Replies.{Reply, Tell, Drop, TellNumber, given, mark_only, facility}
 use Rattle.rules.specs.Replies.{transferred_alerting, transferred_active}
@@ -25,13 +25,13 @@ digit_told d = given 0 1 (d ∷ replicate 14 0)
 -- call 1 Active, call 2 in state s, both Idle, each with a LinkId: 0 and 1
 unfoldable pub neither_held : ℕ → ℕ → Board
 neither_held alerting s =
-    after_records (fresh 1 alerting).board
+    after_records (fresh ForOldLog 1 alerting).board
     (open_with 1 0x31 ∷ open_with 2 0x32 ∷ progress_record 1 10 ∷ progress_record 2 s
     ∷ facility_record ect_link_id_request 1 ∷ facility_record ect_link_id_request 2 ∷ [])
 
 -- not subscribed
 unfoldable pub unsubscribed : Board
-unsubscribed = after_records (fresh 0 2).board (open_record 1 ∷ [])
+unsubscribed = after_records (fresh Live 0 2).board (open_record 1 ∷ [])
 
 -- the empty board with these options, whatever they are
 abbrev pub with_options : ℕ → ℕ → Board
@@ -89,9 +89,8 @@ pub record AmericanSituations : Type 0 where
       (Tell 1 facility transferred_active (digit_told 0x32) 0
       ∷ Tell 2 facility transferred_active (digit_told 0x31) 0
       ∷ [])
-  -- "5 for a second option octet above 3 when a board is made"; "the first stays 0 or 1"
-  pub made_with_3 : (fresh 0 3).returned ≡ 0
-  pub refused_with_4 : (fresh 0 4).returned ≡ 5
-  pub refused_with_first_2 : (fresh 2 3).returned ≡ 5
+  -- "5 for a second option octet above 3 when a board is made"
+  pub made_with_3 : (fresh Live 0 3).returned ≡ 0
+  pub refused_with_4 : (fresh Live 0 4).returned ≡ 5
   -- "and 2 for a board with one"
   pub board_with_4 : (step (with_options 1 4) (open_record 1) 128).returned ≡ 2

@@ -14,8 +14,7 @@ use Rattle.board.specs.declared.Entry.{Entry}
 use Rattle.board.specs.declared.Change.{Change}
 use Rattle.board.specs.declared.Change.TheVariants as change
 use Rattle.board.specs.Entries.{is_number}
-use Rattle.board.specs.Soundness.{valid_options}
-use Rattle.board.specs.Making.{options}
+use Rattle.board.specs.Making.{Opening, options, making_refusal}
 use Rattle.board.specs.Changes.{with_state, with_auxiliary, with_link_id}
 use Rattle.events.specs.declared.Refusal.TheVariants.{BufferTooSmall}
 use Rattle.events.specs.EventRecords.{request}
@@ -30,9 +29,13 @@ pub record Book : Type 0 where
 abbrev pub empty_book : Options → Book
 empty_book o = record { options = o; candidate = pos 0; entries = [] }
 
--- "fed the options (both 0 where making the board was refused)"
-unfoldable pub fresh_book : ℕ → ℕ → Book
-fresh_book s a = cond (valid_options (options s a)) (empty_book (options s a)) (empty_book (options 0 0))
+-- "fed the options (both 0 where making the board was refused)", by the opening that the board was made by
+abbrev pub fed_options : Options → Option ℕ → Options
+fed_options o None = o
+fed_options o (Some n) = options 0 0
+
+unfoldable pub fresh_book : Opening → ℕ → ℕ → Book
+fresh_book way s a = empty_book (fed_options (options s a) (making_refusal way (options s a)))
 
 -- ---- the entries afterwards
 

@@ -6,7 +6,7 @@ use Rattle.octets.specs.Lists.{any}
 use Rattle.board.specs.declared.Connection.TheVariants.{WithPartner}
 use Rattle.board.specs.declared.Entry.{Entry}
 use Rattle.board.specs.Entries.{entry, taken, is_joined}
-use Rattle.board.specs.Making.{fresh}
+use Rattle.board.specs.Making.{ForOldLog, fresh}
 use Rattle.board.specs.declared.Row.{Row}
 use Rattle.rules.specs.Book.{fresh_book}
 use Rattle.rules.specs.History.{Event, board_at, book_at, history, returns, stepped}
@@ -33,24 +33,24 @@ abbrev pub release_leg : ℕ → Event
 release_leg l = event (4 ∷ 0 ∷ 0 ∷ 0 ∷ l ∷ [])
 
 pub record HistoryExamples : Type 0 where
-  pub returned : returns (fresh 1 1).board transfer_list ≡ 0 ∷ 0 ∷ 0 ∷ 0 ∷ 0 ∷ 6 ∷ 0 ∷ 0 ∷ []
+  pub returned : returns (fresh ForOldLog 1 1).board transfer_list ≡ 0 ∷ 0 ∷ 0 ∷ 0 ∷ 0 ∷ 6 ∷ 0 ∷ 0 ∷ []
   pub history_is :
-      history (fresh_book 1 1) transfer_list
+      history (fresh_book ForOldLog 1 1) transfer_list
       ≡ map event
       (open_record 1 ∷ progress_record 1 10 ∷ hold_record 1 1 ∷ hold_record 1 2
       ∷ open_record 2 ∷ progress_record 2 4 ∷ facility_record ect_execute 1 ∷ [])
   -- the first party is joined with the second, which alerts, on the board and in the book
-  pub transferred : taken (board_at (fresh 1 1).board transfer_list).rows ≡ entry 1 (WithPartner 2 false) ∷ entry 2 (WithPartner 1 true) ∷ []
-  pub transferred_book : (book_at (fresh_book 1 1) transfer_list).entries ≡ entry 2 (WithPartner 1 true) ∷ entry 1 (WithPartner 2 false) ∷ []
+  pub transferred : taken (board_at (fresh ForOldLog 1 1).board transfer_list).rows ≡ entry 1 (WithPartner 2 false) ∷ entry 2 (WithPartner 1 true) ∷ []
+  pub transferred_book : (book_at (fresh_book ForOldLog 1 1) transfer_list).entries ≡ entry 2 (WithPartner 1 true) ∷ entry 1 (WithPartner 2 false) ∷ []
   -- without the alerting option the same list transfers nothing
-  pub not_transferred : returns (fresh 1 0).board transfer_list ≡ 0 ∷ 0 ∷ 0 ∷ 0 ∷ 0 ∷ 6 ∷ 0 ∷ 0 ∷ []
-  pub calls_stay : any (λ (e : Entry). is_joined e.connection) (taken (board_at (fresh 1 0).board transfer_list).rows) ≡ false
+  pub not_transferred : returns (fresh ForOldLog 1 0).board transfer_list ≡ 0 ∷ 0 ∷ 0 ∷ 0 ∷ 0 ∷ 6 ∷ 0 ∷ 0 ∷ []
+  pub calls_stay : any (λ (e : Entry). is_joined e.connection) (taken (board_at (fresh ForOldLog 1 0).board transfer_list).rows) ≡ false
   -- the answer ends the alerting, and the release of one ends both
   pub answered :
-      taken (board_at (fresh 1 1).board (transfer_list ++ (answer_leg 2 ∷ []))).rows
+      taken (board_at (fresh ForOldLog 1 1).board (transfer_list ++ (answer_leg 2 ∷ []))).rows
       ≡ entry 1 (WithPartner 2 false) ∷ entry 2 (WithPartner 1 false) ∷ []
-  pub released : taken (board_at (fresh 1 1).board (transfer_list ++ (answer_leg 2 ∷ release_leg 1 ∷ []))).rows ≡ []
-  pub released_book : (book_at (fresh_book 1 1) (transfer_list ++ (answer_leg 2 ∷ release_leg 1 ∷ []))).entries ≡ []
+  pub released : taken (board_at (fresh ForOldLog 1 1).board (transfer_list ++ (answer_leg 2 ∷ release_leg 1 ∷ []))).rows ≡ []
+  pub released_book : (book_at (fresh_book ForOldLog 1 1) (transfer_list ++ (answer_leg 2 ∷ release_leg 1 ∷ []))).entries ≡ []
 
 -- a SubaddressTransfer invoke, the subaddress 37
 abbrev pub subaddress_transfer : List ℕ
@@ -68,17 +68,17 @@ pub record PassingExamples : Type 0 where
   -- leg 2, which alerts, sends its subaddress, and leg 1 gets it; a leg that is not there, and a component that is no
   -- such invoke
   pub passed_on :
-      returns (board_at (fresh 1 1).board transfer_list)
+      returns (board_at (fresh ForOldLog 1 1).board transfer_list)
       (leg_facility 2 subaddress_transfer ∷ leg_facility 3 subaddress_transfer ∷ leg_facility 2 ect_execute ∷ [])
       ≡ 0 ∷ 10 ∷ 12 ∷ []
   pub passed_on_octets :
-      octets (stepped (board_at (fresh 1 1).board transfer_list) (leg_facility 2 subaddress_transfer)).replies
+      octets (stepped (board_at (fresh ForOldLog 1 1).board transfer_list) (leg_facility 2 subaddress_transfer)).replies
       ≡ 0x85 ∷ 0 ∷ 0 ∷ 0 ∷ 1 ∷ counted subaddress_transfer
   pub passed_on_board :
-      taken (board_at (fresh 1 1).board (transfer_list ++ (leg_facility 2 subaddress_transfer ∷ []))).rows
+      taken (board_at (fresh ForOldLog 1 1).board (transfer_list ++ (leg_facility 2 subaddress_transfer ∷ []))).rows
       ≡ entry 1 (WithPartner 2 false) ∷ entry 2 (WithPartner 1 true) ∷ []
   -- before the transfer the leg is with the served user
-  pub not_passed_on : returns (fresh 1 1).board (event (open_record 1) ∷ leg_facility 1 subaddress_transfer ∷ []) ≡ 0 ∷ 11 ∷ []
+  pub not_passed_on : returns (fresh ForOldLog 1 1).board (event (open_record 1) ∷ leg_facility 1 subaddress_transfer ∷ []) ≡ 0 ∷ 11 ∷ []
 
 -- an EctInform invoke with this indication and the digits 21
 abbrev pub ect_inform : ℕ → List ℕ
@@ -99,21 +99,21 @@ restricted_list =
 pub record InformingExamples : Type 0 where
   -- active, alerting; no such call, a call that is not Active, a component that is no such invoke
   pub informed_numbers :
-      returns (board_at (fresh 0 0).board restricted_list)
+      returns (board_at (fresh ForOldLog 0 0).board restricted_list)
       (inform 3 (ect_inform 1) ∷ inform 3 (ect_inform 0) ∷ inform 2 (ect_inform 1) ∷ inform 1 (ect_inform 1)
       ∷ inform 3 (ect_inform 2) ∷ [])
       ≡ 0 ∷ 0 ∷ 9 ∷ 11 ∷ 12 ∷ []
   -- the number received is told, not the row's own, and it is given although the row is restricted
   pub active_octets :
-      octets (stepped (board_at (fresh 0 0).board restricted_list) (inform 3 (ect_inform 1))).replies
+      octets (stepped (board_at (fresh ForOldLog 0 0).board restricted_list) (inform 3 (ect_inform 1))).replies
       ≡ 0x82 ∷ 0 ∷ 0 ∷ 0 ∷ 7 ∷ 0 ∷ 0xEA ∷ 1 ∷ 1 ∷ 2 ∷ 0x32 ∷ 0x31 ∷ replicate 13 0
   -- for alerting it is ignored
   pub alerting_octets :
-      octets (stepped (board_at (fresh 0 0).board restricted_list) (inform 3 (ect_inform 0))).replies
+      octets (stepped (board_at (fresh ForOldLog 0 0).board restricted_list) (inform 3 (ect_inform 0))).replies
       ≡ 0x82 ∷ 0 ∷ 0 ∷ 0 ∷ 7 ∷ 1 ∷ 0xE9 ∷ 0 ∷ 0 ∷ 0 ∷ replicate 15 0
   pub informed_board :
-      taken (board_at (fresh 0 0).board (restricted_list ++ (inform 3 (ect_inform 1) ∷ []))).rows
-      ≡ taken (board_at (fresh 0 0).board restricted_list).rows
+      taken (board_at (fresh ForOldLog 0 0).board (restricted_list ++ (inform 3 (ect_inform 1) ∷ []))).rows
+      ≡ taken (board_at (fresh ForOldLog 0 0).board restricted_list).rows
 
 -- ---- types of number
 
@@ -132,7 +132,7 @@ typed_transfer presentation t =
 abbrev pub told_by_transfer : ℕ → ℕ → List ℕ
 told_by_transfer presentation t =
     drop 42
-    (octets (stepped (board_at (fresh 1 0).board (typed_transfer presentation t)) (event (facility_record ect_execute 1))).replies)
+    (octets (stepped (board_at (fresh ForOldLog 1 0).board (typed_transfer presentation t)) (event (facility_record ect_execute 1))).replies)
 
 -- to leg 1 the other's digit, of type 0
 abbrev pub told_1 : List ℕ
@@ -141,11 +141,11 @@ told_1 = 0x82 ∷ 0 ∷ 0 ∷ 0 ∷ 1 ∷ 0 ∷ 0xEA ∷ 1 ∷ 1 ∷ 1 ∷ 0x39 
 pub record TypedExamples : Type 0 where
   -- "event 1 means type 0"
   pub same_board :
-      board_at (fresh 0 0).board (event (typed_open 1 0 0) ∷ []) ≡ board_at (fresh 0 0).board (event (open_with 1 0x39) ∷ [])
+      board_at (fresh ForOldLog 0 0).board (event (typed_open 1 0 0) ∷ []) ≡ board_at (fresh ForOldLog 0 0).board (event (open_with 1 0x39) ∷ [])
   -- "a type of number (0 unknown, 1 international, 2 national)"
-  pub types : returns (fresh 0 0).board (event (typed_open 1 0 2) ∷ event (typed_open 2 0 3) ∷ []) ≡ 0 ∷ 5 ∷ []
+  pub types : returns (fresh ForOldLog 0 0).board (event (typed_open 1 0 2) ∷ event (typed_open 2 0 3) ∷ []) ≡ 0 ∷ 5 ∷ []
   -- a type without digits
-  pub no_digits : returns (fresh 0 0).board (event (9 ∷ 0 ∷ 1 ∷ 0 ∷ 0 ∷ 0 ∷ 1 ∷ 0 ∷ 0 ∷ 2 ∷ 0 ∷ replicate 15 0) ∷ []) ≡ 0 ∷ []
+  pub no_digits : returns (fresh ForOldLog 0 0).board (event (9 ∷ 0 ∷ 1 ∷ 0 ∷ 0 ∷ 0 ∷ 1 ∷ 0 ∷ 0 ∷ 2 ∷ 0 ∷ replicate 15 0) ∷ []) ≡ 0 ∷ []
   -- "A Tell whose number is given with type 1 or 2 is record 0x86 (type octet before the digit count ..)"
   pub international : told_by_transfer 0 1 ≡ told_1 ++ (0x86 ∷ 0 ∷ 0 ∷ 0 ∷ 2 ∷ 0 ∷ 0xEA ∷ 1 ∷ 1 ∷ 1 ∷ 1 ∷ 0x39 ∷ replicate 14 0)
   -- "all others stay 0x82": of type 0, or withheld
@@ -156,5 +156,5 @@ pub record TypedExamples : Type 0 where
   -- a transfer keeps the types
   pub kept_types :
       map (λ (r : Row). r.number.type_of_number)
-      (take 3 (board_at (fresh 1 0).board (typed_transfer 0 1 ++ (event (facility_record ect_execute 1) ∷ []))).rows)
+      (take 3 (board_at (fresh ForOldLog 1 0).board (typed_transfer 0 1 ++ (event (facility_record ect_execute 1) ∷ []))).rows)
       ≡ 1 ∷ 0 ∷ 0 ∷ []

@@ -12,7 +12,7 @@ use Rattle.board.specs.declared.Change.{Change}
 use Rattle.board.specs.declared.Change.TheVariants as change
 use Rattle.board.specs.Entries.{taken, has_leg, is_partner}
 use Rattle.board.specs.Soundness.{sound, same_link_ids, valid_options}
-use Rattle.board.specs.Making.{empty_board, fresh}
+use Rattle.board.specs.Making.{Opening, empty_board, fresh}
 use Rattle.events.specs.EventRecords.{request, Request, Malformed, Open, Progress, Hold, Release, Facility, Answer}
 use Rattle.events.specs.EventRecords.{LegFacility, Inform}
 use Rattle.rules.specs.Checks.{BoardChange, Enter, Apply, returned_by, change_of}
@@ -203,6 +203,6 @@ abbrev pub Demand3Of : Options → Type 0
 Demand3Of o = T (valid_options o) → (list : List Event) → WholeHistory (empty_board o) (empty_book o) list
 
 -- "For every list of events .. played into a board that begins fresh, whatever the options and reply buffers": the
--- board that making returns
+-- board that making returns; "for boards made either way" (document 02, slip 9)
 abbrev pub Demand3 : Type 0
-Demand3 = (s a : ℕ) (list : List Event) → WholeHistory (fresh s a).board (fresh_book s a) list
+Demand3 = (way : Opening) (s a : ℕ) (list : List Event) → WholeHistory (fresh way s a).board (fresh_book way s a) list

@@ -8,7 +8,9 @@ pub mod Book
 pub mod History
 pub mod Situations
 pub mod AmericanSituations
+pub mod ExplicitOnly
 pub mod OldConsole
+pub mod AlikeButForExecute
 pub mod Examples
 pub mod SingleEvents
 pub mod PassedOn

@@ -14,6 +14,7 @@ use Rattle.board.specs.declared.Party.{Party}
 use Rattle.board.specs.declared.RuleSet.{RuleSet}
 use Rattle.board.specs.declared.RuleSet.TheVariants.{European, American}
 use Rattle.board.specs.RuleSets.{rule_set}
+use Rattle.board.specs.Subscription.{is_subscribed, is_explicit_only}
 use Rattle.board.specs.Entries.{link_id_in, has_party_link_id}
 use Rattle.board.specs.LinkIds.{most_link_ids, free_link_id, live}
 -- what a component comes to
@@ -67,21 +68,25 @@ perform o candidate ps named i EctLinkIdRequest = link_id_request candidate (liv
 
 -- "Not subscribed: e = 0, after any Reject above and before the rest."
 abbrev pub if_subscribed : Options → IntegerOctets → Service → Service
-if_subscribed o i s = cond (eqb o.subscribed 1) s (error i 0)
+if_subscribed o i s = cond (is_subscribed o) s (error i 0)
 
 -- "EctExecute is answered there by invoke problem 1, subscribed or not, since both calls must be named." (document 02,
 -- slip 7)
-abbrev pub is_served : RuleSet → Operation → Bool
-is_served European op = true
-is_served American EctExecute = false
-is_served American (ExplicitEctExecute l) = true
-is_served American EctLinkIdRequest = true
+abbrev pub may_name_one : RuleSet → Bool
+may_name_one European = true
+may_name_one American = false
 
-abbrev pub if_served : RuleSet → Operation → IntegerOctets → Service → Service
-if_served r op i s = cond (is_served r op) s (Respond (answer.Rejected (Invoke i 1)))
+-- "explicit only; EctExecute then gets invoke problem 1" (slip 9)
+abbrev pub is_served : Options → Operation → Bool
+is_served o EctExecute = may_name_one (rule_set o) && not (is_explicit_only o)
+is_served o (ExplicitEctExecute l) = true
+is_served o EctLinkIdRequest = true
+
+abbrev pub if_served : Options → Operation → IntegerOctets → Service → Service
+if_served o op i s = cond (is_served o op) s (Respond (answer.Rejected (Invoke i 1)))
 
 unfoldable pub serve : Options → ℤ → List Party → Party → Reading → Service
 serve o candidate ps named Ignored = Silent
 serve o candidate ps named (Rejected r) = Respond (answer.Rejected r)
 serve o candidate ps named (Invoked i op) =
-    if_served (rule_set o) op i (if_subscribed o i (perform o candidate ps named i op))
+    if_served o op i (if_subscribed o i (perform o candidate ps named i op))

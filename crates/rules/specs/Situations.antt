@@ -12,7 +12,7 @@ use Rattle.board.specs.declared.AuxiliaryState.TheVariants.{Idle, HoldRequest, C
 use Rattle.board.specs.declared.RuleSet.TheVariants.{European}
 use Rattle.board.specs.declared.Call.{Call}
 use Rattle.board.specs.declared.Board.{Board}
-use Rattle.board.specs.Making.{fresh}
+use Rattle.board.specs.Making.{ForOldLog, fresh}
 use Rattle.board.specs.Counts.{counts}
 use Rattle.rules.specs.Pairing.{verdict}
 use Rattle.rules.specs.Replies.{ReplyRecord, Reply, Tell, Drop, octets, mark_only, facility, transferred_active}
@@ -70,12 +70,12 @@ with_candidate z b = record { rows = b.rows; options = b.options; candidate = re
 -- calls 1 to n, all Active, and of them call 1 held
 unfoldable pub held_and_idle : ℕ → Board
 held_and_idle n =
-    after_records (fresh 1 0).board
+    after_records (fresh ForOldLog 1 0).board
     (up_to n open_record ++ (up_to n (λ (r : ℕ). progress_record r 10) ++ (hold_record 1 1 ∷ hold_record 1 2 ∷ [])))
 
 -- 17 calls, of which calls 1 to 16 have LinkIds, 0 to 15
 unfoldable pub sixteen_live : Board
-sixteen_live = after_records (fresh 1 0).board (up_to 17 open_record ++ up_to 16 (facility_record ect_link_id_request))
+sixteen_live = after_records (fresh ForOldLog 1 0).board (up_to 17 open_record ++ up_to 16 (facility_record ect_link_id_request))
 
 abbrev pub call : CallState → AuxiliaryState → Call
 call s a = record { reference = record { 0 = 1 }; direction = Outgoing; state = s; auxiliary = a; link = None }
@@ -116,7 +116,7 @@ pub record Situations : Type 0 where
       number_and_octets (after_records (held_and_idle 2) (facility_record ect_link_id_request 1 ∷ [])) (facility_record (explicit_ect_execute 0) 1)
       ≡ error_on 1 7
   pub unsubscribed_and_link_unknown :
-      number_and_octets (after_records (fresh 0 0).board (open_record 1 ∷ [])) (facility_record (explicit_ect_execute 9) 1)
+      number_and_octets (after_records (fresh ForOldLog 0 0).board (open_record 1 ∷ [])) (facility_record (explicit_ect_execute 9) 1)
       ≡ error_on 1 0
   -- "One Active Held, two Active Idle: EctExecute on the held one, 7; on an idle one, transfer."
   pub execute_on_the_held_one : number_and_octets (held_and_idle 3) (facility_record ect_execute 1) ≡ error_on 1 7
@@ -133,7 +133,7 @@ pub record Situations : Type 0 where
   pub buffer_127 : (step (held_and_idle 2) (open_record 3) 127).returned ≡ 1
   pub buffer_128 : (step (held_and_idle 2) (open_record 3) 128).returned ≡ 0
   -- "Counts of a fresh board: 0, 0, 0; after a transfer with no third call: legs 2, pairs 1, links 0."
-  pub counts_of_a_fresh_board : counts (fresh 1 1).board.rows ≡ record { returned = 0; legs = 0; pairs = 0; links = 0 }
+  pub counts_of_a_fresh_board : counts (fresh ForOldLog 1 1).board.rows ≡ record { returned = 0; legs = 0; pairs = 0; links = 0 }
   pub counts_after_a_transfer :
       counts (after_records (held_and_idle 2) (facility_record ect_execute 1 ∷ [])).rows
       ≡ record { returned = 0; legs = 2; pairs = 1; links = 0 }
@@ -161,10 +161,10 @@ worked_component =
 pub record WorkedLog : Type 0 where
   -- "1 1 0 -", "2 5 0 81000112a210020105300b060604008271010402010000..", "3 5 9 -"
   pub lines :
-      log (fresh 1 0).board worked_records
+      log (fresh ForOldLog 1 0).board worked_records
       ≡ (0 ∷ [])
       ∷ (0 ∷ 0x81 ∷ 0x00 ∷ 0x01 ∷ 0x12 ∷ (worked_component ++ replicate 14 0))
       ∷ (9 ∷ [])
       ∷ []
   -- "end 1 0 1"
-  pub end : counts (after_records (fresh 1 0).board worked_records).rows ≡ record { returned = 0; legs = 1; pairs = 0; links = 1 }
+  pub end : counts (after_records (fresh ForOldLog 1 0).board worked_records).rows ≡ record { returned = 0; legs = 1; pairs = 0; links = 1 }

@@ -10,7 +10,7 @@ ghost use Rattle.board.specs.LinkIds.{live};
 ghost use Rattle.board.specs.Entries.{link_id_in};
 
 use board::finding::free_link_id;
-use board::{Board, MOST_LINK_IDS, Party, RuleSet};
+use board::{Board, MOST_LINK_IDS, Options, Party, RuleSet};
 use component::{Answer, Operation, Reading, Reject, UNRECOGNIZED_OPERATION};
 use octets::{IntegerOctets, LinkId};
 use pairing::{is_partner, only_partner};
@@ -100,14 +100,16 @@ fn perform(board: &Board, named: Party, identifier: IntegerOctets, operation: Op
     }
 }
 
-// By American rules both calls must be named.
-fn is_served(rules: RuleSet, operation: Operation) -> bool
-    ensures { result ≡ is_served rules operation }
+// An EctExecute names one call: both must be named by American rules, and where the option says explicit only.
+fn is_served(options: Options, operation: Operation) -> bool
+    ensures { result ≡ is_served options operation }
 {
-    !matches!(
-        (rules, operation),
-        (RuleSet::American, Operation::EctExecute)
-    )
+    match operation {
+        Operation::EctExecute => {
+            options.rule_set() == RuleSet::European && !options.is_explicit_only()
+        }
+        Operation::ExplicitEctExecute(_) | Operation::EctLinkIdRequest => true,
+    }
 }
 
 // What the component of a Facility on the named call comes to.
@@ -119,13 +121,13 @@ pub fn serve(board: &Board, named: Party, reading: Reading) -> Service
         Reading::Ignored => Service::Silent,
         Reading::Rejected(reject) => Service::Respond(Answer::Rejected(reject)),
         Reading::Invoked(identifier, operation) => {
-            if !is_served(board.options.rule_set(), operation) {
+            if !is_served(board.options, operation) {
                 return Service::Respond(Answer::Rejected(Reject::Invoke(
                     identifier,
                     UNRECOGNIZED_OPERATION,
                 )));
             }
-            if board.options.subscribed == 1 {
+            if board.options.is_subscribed() {
                 return perform(board, named, identifier, operation);
             }
             failed(identifier, NOT_SUBSCRIBED)

@@ -1,6 +1,6 @@
 //! The board: 64 rows, two options and the next LinkId candidate.
 
-use crate::rules::{RuleSet, HIGHEST};
+use crate::rules::RuleSet;
 
 pub const ROWS: usize = 64;
 pub const MAX_LIVE: usize = 16;
@@ -191,15 +191,8 @@ impl Board {
         RuleSet::of(self.alerting)
     }
 
-    /// A fresh board, or 5 with an empty board and both options 0.
-    pub fn fresh(subscribed: u8, alerting: u8) -> (u8, Board) {
-        let good = subscribed <= 1 && alerting <= HIGHEST;
-        let board = Board {
-            rows: [Row::EMPTY; ROWS],
-            subscribed: if good { subscribed } else { 0 },
-            alerting: if good { alerting } else { 0 },
-            candidate: LinkId(0),
-        };
-        (if good { 0 } else { 5 }, board)
+    /// With rows that are all empty.
+    pub fn empty(subscribed: u8, alerting: u8) -> Board {
+        Board { rows: [Row::EMPTY; ROWS], subscribed, alerting, candidate: LinkId(0) }
     }
 }

@@ -15,9 +15,9 @@ const EDGES: [i16; 4] = [127, 128, -32768, -129];
 /// More than all values, so that the candidate comes round.
 const GIVEN: usize = 65_536 + 400;
 
-/// By European rules with the option 1, by American with 3.
-pub fn log(rng: &mut Rng, alerting: u8, opens: Opens) -> Vec<u8> {
-    let mut script = Script { opens, ..Script::new(rng, 1, alerting) };
+/// With options under which all that is asked for is served: a party that alerts is transferred too.
+pub fn log(rng: &mut Rng, (subscribed, alerting): (u8, u8), opens: Opens) -> Vec<u8> {
+    let mut script = Script { opens, ..Script::new(rng, subscribed, alerting) };
     let mut given = 0;
     while given < GIVEN {
         given += round(&mut script);

@@ -103,7 +103,7 @@ fn shift(rng: &mut Rng, log: &mut Vec<u8>) {
 fn bad_options(rng: &mut Rng, log: &mut Vec<u8>) {
     match rng.below(6) {
         0 => log[0] = bad_first(rng),
-        1 | 2 => (log[0], log[1]) = (rng.below(2) as u8, bad_second(rng)),
+        1 | 2 => (log[0], log[1]) = (rng.below(3) as u8, bad_second(rng)),
         3 => (log[0], log[1]) = (bad_first(rng), bad_second(rng)),
         4 => log.clear(),
         _ => log.truncate(rng.pick(&[1, 1, 2])),
@@ -111,8 +111,8 @@ fn bad_options(rng: &mut Rng, log: &mut Vec<u8>) {
 }
 
 fn bad_first(rng: &mut Rng) -> u8 {
-    let any = rng.within(2, 255) as u8;
-    rng.pick(&[2, 2, 3, 255, any])
+    let any = rng.within(4, 254) as u8;
+    rng.pick(&[3, 255, any])
 }
 
 fn bad_second(rng: &mut Rng) -> u8 {

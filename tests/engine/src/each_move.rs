@@ -1,5 +1,5 @@
-//! Logs that are moved whatever the seed: each kind cut at each place, each pair of options, and first
-//! bad records whose numbers have one figure to four.
+//! Logs that are moved whatever the seed: each kind cut at each place, each pair of options, those next to
+//! them, and first bad records whose numbers have one figure to four.
 
 use crate::board::Reference;
 use crate::near_move::of_kind;
@@ -22,11 +22,13 @@ pub fn logs(rng: &mut Rng) -> Vec<Vec<u8>> {
     logs
 }
 
-/// All options, alone and with an Open of either kind.
+/// All options and bad ones next to them, alone and with an Open of either kind.
 fn options() -> Vec<Vec<u8>> {
     let open = open(Reference(1), 7, 0, 0, b"21");
     let behind = [vec![], open.clone(), typed(open, 0)];
-    let options = [[0, 0], [0, 1], [0, 2], [0, 3], [1, 0], [1, 1], [1, 2], [1, 3]];
+    let good = (0..=2).flat_map(|first| (0..=3).map(move |second| [first, second]));
+    let bad = [[0, 4], [1, 4], [2, 4], [2, 5], [3, 0], [3, 3], [255, 1], [3, 4]];
+    let options: Vec<[u8; 2]> = good.chain(bad).collect();
     options.iter().flat_map(|options| behind.iter().map(|behind| [&options[..], behind].concat())).collect()
 }
 

@@ -1,7 +1,7 @@
 //! Soundness of a whole board in one pass, and the lookups that pass leaves behind.
 
 use crate::board::{Board, Call, LinkId, Reference, Row, Standing, MAX_LIVE, ROWS};
-use crate::rules::HIGHEST;
+use crate::{rules, subscription};
 
 /// Hash tables from leg and from reference to place. A slot holds place + 1, 0 is free.
 /// 256 slots for at most 64 rows: short probes, and a `u8` slot number needs no bound check.
@@ -50,7 +50,7 @@ impl Index {
     /// Checks each row by itself and all keys for being distinct; gives the joined rows.
     #[inline]
     fn gather(&mut self, board: &Board) -> Option<u64> {
-        if board.subscribed > 1 || board.alerting > HIGHEST {
+        if board.subscribed > subscription::HIGHEST || board.alerting > rules::HIGHEST {
             return None;
         }
         let mut links = Links { values: [LinkId(0); MAX_LIVE], low_bits: 0 };

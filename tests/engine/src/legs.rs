@@ -68,7 +68,7 @@ fn leg(script: &mut Script, weights: [u32; 3]) -> u32 {
 /// Alerting ones are likelier; where none is joined, two are, if the access is subscribed.
 fn joined(script: &mut Script) -> Option<u32> {
     for _ in 0..2 {
-        if script.board.subscribed == 1 && script.pick_joined().is_none() {
+        if script.board.subscribed != 0 && script.pick_joined().is_none() {
             pair(script);
         }
     }

@@ -13,6 +13,7 @@ pub mod invoke;
 pub mod lookup;
 pub mod mover;
 pub mod moving;
+pub mod opening;
 pub mod pair_table;
 pub mod play;
 pub mod reply;
@@ -20,6 +21,7 @@ pub mod rows;
 pub mod rules;
 pub mod serve;
 pub mod subaddress;
+pub mod subscription;
 
 // Making logs.
 pub mod actions;
@@ -42,6 +44,7 @@ pub mod rng;
 pub mod script;
 
 // Tallying what occurs in them.
+pub mod alike;
 pub mod american;
 pub mod console;
 pub mod moved;
@@ -50,6 +53,7 @@ pub mod notice_american;
 pub mod notice_answer;
 pub mod notice_carrier;
 pub mod notice_component;
+pub mod notice_explicit;
 pub mod notice_inform;
 pub mod notice_inform_refused;
 pub mod notice_integer;
@@ -61,6 +65,7 @@ pub mod notice_miss_inform;
 pub mod notice_miss_subaddress;
 pub mod notice_move;
 pub mod notice_open;
+pub mod notice_options;
 pub mod notice_pair;
 pub mod notice_pass;
 pub mod notice_refused;
@@ -71,6 +76,7 @@ pub mod opened;
 pub mod places;
 pub mod seen;
 pub mod seen_carrier;
+pub mod seen_explicit;
 pub mod seen_inform;
 pub mod seen_leg;
 pub mod seen_move;

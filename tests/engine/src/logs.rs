@@ -49,11 +49,12 @@ const STYLES: [Style; 10] = [
 /// The place of the last style.
 const COMBINING: usize = STYLES.len() - 1;
 
-/// Both options: four ways by European rules, then four by American.
-const OPTIONS: [(u8, u8); 8] = [(1, 1), (1, 0), (0, 0), (0, 1), (1, 3), (1, 2), (0, 2), (0, 3)];
+/// Both options: six ways by European rules, then six by American.
+const OPTIONS: [(u8, u8); 12] =
+    [(1, 1), (1, 0), (0, 0), (0, 1), (2, 1), (2, 0), (1, 3), (1, 2), (0, 2), (0, 3), (2, 3), (2, 2)];
 /// Their weights, where the style is that of combined calls and where it is another.
-const COMBINED: [u32; 8] = [12, 6, 1, 1, 36, 28, 3, 3];
-const OTHERWISE: [u32; 8] = [44, 22, 11, 11, 14, 7, 4, 4];
+const COMBINED: [u32; 12] = [12, 6, 1, 1, 8, 4, 22, 18, 3, 3, 16, 12];
+const OTHERWISE: [u32; 12] = [42, 21, 11, 11, 16, 10, 9, 5, 4, 4, 9, 5];
 
 const OPENS: [Opens; 3] = [Opens::Old, Opens::Moved, Opens::Any];
 
@@ -78,8 +79,8 @@ impl Iterator for Logs {
         }
         self.made += 1;
         Some(match self.made {
-            1 => cycle::log(&mut self.rng, 1, Opens::Old),
-            CYCLES => cycle::log(&mut self.rng, 3, Opens::Any),
+            1 => cycle::log(&mut self.rng, (1, 1), Opens::Old),
+            CYCLES => cycle::log(&mut self.rng, (2, 3), Opens::Any),
             _ => steered(&mut self.rng),
         })
     }

@@ -124,6 +124,7 @@ impl Runs {
             Ok(length) => {
                 tally.add((run, RunSeen::Moved));
                 tally.add_if(length != log.len(), (run, RunSeen::Turned));
+                tally.add_if(log[0] == 2, (run, RunSeen::ExplicitOnly));
                 return tally.add_if(length == 2, (run, RunSeen::Alone));
             }
             Err(refusal) => (refusal.returned, refusal.record),

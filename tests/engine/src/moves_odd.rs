@@ -42,7 +42,7 @@ fn last_bad(log: &[u8]) -> Vec<u8> {
 impl Runs {
     /// Logs about as large as standard input may give, and far larger ones.
     pub fn large(&mut self) -> Result<(), String> {
-        let old = cycle::log(&mut self.rng, 1, Opens::Old);
+        let old = cycle::log(&mut self.rng, (1, 1), Opens::Old);
         let new = moved_log(&old, Way::ToNew).map_err(|refusal| format!("long log: {refusal:?}"))?;
         for (way, log) in [(Way::ToNew, &old), (Way::ToOld, &new)] {
             self.around_largest(way, log)?;
@@ -79,7 +79,7 @@ impl Runs {
         let trouble = |error: std::io::Error| error.to_string();
         let [cannot_read, cannot_write] = [CANNOT_READ, CANNOT_WRITE].map(|line| Ended::with_error(line, 1));
         let (small, other) = (exactly(&[1, 1], 50), exactly(&[0, 3], 40));
-        let long = cycle::log(&mut self.rng, 3, Opens::Moved);
+        let long = cycle::log(&mut self.rng, (2, 3), Opens::Moved);
         let folder = self.folder.0.to_string_lossy().into_owned();
         let none = self.folder.0.join("none").to_string_lossy().into_owned();
         for way in Way::BOTH {

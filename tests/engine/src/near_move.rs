@@ -43,7 +43,7 @@ fn opens_alone(rng: &mut Rng, log: &mut Vec<u8>) {
 
 /// The options, and up to eight good records of a log or all, at times turned into the new form.
 fn front(rng: &mut Rng, from: &[u8]) -> Vec<u8> {
-    let Some((_, rest)) = start(from) else { return vec![1, rng.below(4) as u8] };
+    let Some((_, rest)) = start(from) else { return vec![rng.below(3) as u8, rng.below(4) as u8] };
     let mut log = from[..2].to_vec();
     let good: Vec<&[u8]> = records(rest).filter(|record| bad(record, Way::ToOld) == 0).collect();
     let count = if rng.percent(15) { good.len() } else { rng.below(9).min(good.len()) };
@@ -168,9 +168,9 @@ fn unknown(rng: &mut Rng) -> Vec<u8> {
 
 fn spoil_options(rng: &mut Rng, log: &mut Vec<u8>) {
     match rng.below(5) {
-        0 => log[0] = rng.pick(&[2, 255]),
-        1 => log[1] = rng.pick(&[4, 255]),
-        2 => log[..2].copy_from_slice(&rng.pick(&[[2, 4], [255, 255]])),
+        0 => log[0] = rng.pick(&[3, 3, 255, 4, 128]),
+        1 => log[..2].copy_from_slice(&[rng.below(3) as u8, rng.pick(&[4, 5, 255])]),
+        2 => log[..2].copy_from_slice(&rng.pick(&[[3, 4], [255, 255]])),
         3 => log.truncate(1),
         _ => log.clear(),
     }

@@ -2,6 +2,7 @@
 
 use std::collections::{HashMap, HashSet};
 
+use crate::alike;
 use crate::american;
 use crate::board::{Aux, Board, Call, CallState, LinkId, Reference, Row, Standing, INCOMING};
 use crate::carrier::Carrier;
@@ -10,10 +11,12 @@ use crate::event::{event, Answer, Event, OPEN_TYPED, RELEASE};
 use crate::notice_answer;
 use crate::notice_carrier;
 use crate::notice_component;
+use crate::notice_explicit;
 use crate::notice_inform;
 use crate::notice_invoke::rewritten;
 use crate::notice_leg;
 use crate::notice_open;
+use crate::notice_options;
 use crate::notice_pair::looked_up;
 use crate::notice_refused::{bad_field, no_call, not_permitted, open_refused};
 use crate::opened;
@@ -81,10 +84,10 @@ pub struct Fault {
 pub fn watch(log: &[u8], tally: &mut Tally) -> Result<(), Fault> {
     tally.logs += 1;
     let Some((mut board, mut rest)) = start(log) else {
-        bad_options(log, tally);
+        notice_options::bad(log, tally);
         return Ok(());
     };
-    tally.add(options(&board));
+    tally.add(notice_options::good(&board));
     tally.add_if(rest.is_empty(), Seen::NoRecords);
     let mut past = Past::default();
     let mut number = 0;
@@ -99,11 +102,13 @@ pub fn watch(log: &[u8], tally: &mut Tally) -> Result<(), Fault> {
             .and_then(|()| invokes_stand(&moment, tally))
             .and_then(|()| places::stands(&moment))
             .and_then(|()| american::stands(&moment))
+            .and_then(|()| alike::stands(&moment))
             .and_then(|()| console::stands(&moment))
             .and_then(|()| opened::stands(&moment))
             .map_err(|what| Fault { event: number, what })?;
         notice(&moment, &mut past, tally);
         console::notice(&moment, tally);
+        notice_explicit::notice(&moment, tally);
         tally.add_if(returned == 4 && rest.len() == 1, Seen::UnknownKindLast);
         if let (Some(carrier), [_]) = (Carrier::of(record[0]), after) {
             tally.add((carrier, CarrierSeen::OneBehind));
@@ -113,28 +118,6 @@ pub fn watch(log: &[u8], tally: &mut Tally) -> Result<(), Fault> {
     }
     tally.events += number as u64;
     Ok(())
-}
-
-fn options(board: &Board) -> Seen {
-    let unsubscribed = [Seen::Options00, Seen::Options01, Seen::Options02, Seen::Options03];
-    let subscribed = [Seen::Options10, Seen::Options11, Seen::Options12, Seen::Options13];
-    [unsubscribed, subscribed][board.subscribed as usize][board.alerting as usize]
-}
-
-fn bad_options(log: &[u8], tally: &mut Tally) {
-    tally.add(match log {
-        [] => Seen::OptionsMissing,
-        [_] => Seen::OptionMissing,
-        [0, 4, ..] => Seen::OptionsBad04,
-        [1, 4, ..] => Seen::OptionsBad14,
-        [0 | 1, 5, ..] => Seen::OptionSecond5,
-        [0 | 1, 0xFF, ..] => Seen::OptionSecondFF,
-        [0 | 1, ..] => Seen::OptionSecondElse,
-        [_, 4..=255, ..] => Seen::OptionsBothBad,
-        [2, ..] => Seen::OptionFirst2,
-        [0xFF, ..] => Seen::OptionFirstFF,
-        _ => Seen::OptionFirstElse,
-    });
 }
 
 /// What holds of every event: a sound board after it, nothing changed by a refusal or by

@@ -17,15 +17,22 @@ fn partners(board: &Board, call: &Call, alerting: u8) -> usize {
 
 /// An EctExecute, which is rejected though a call or several would pair.
 pub fn executed(board: &Board, call: &Call, component: &[u8], tally: &mut Tally) {
-    let options = [[Execute00, Execute01], [Execute10, Execute11]];
+    let options = [[Execute00, Execute01], [Execute10, Execute11], [Execute20, Execute21]];
     tally.add(options[board.subscribed as usize][(board.alerting - 2) as usize]);
     let fitting = partners(board, call, board.alerting);
-    if board.subscribed == 0 {
-        tally.add_if(fitting == 1, ExecuteUnsubscribed);
-    } else {
-        tally.add([ExecuteNone, ExecuteOne, ExecuteSeveral][fitting.min(2)]);
-        // The same option by European rules.
-        tally.add_if(partners(board, call, board.alerting - 2) == 1, ExecuteEuropean);
+    // The same option by European rules.
+    let european = partners(board, call, board.alerting - 2) == 1;
+    match board.subscribed {
+        0 => tally.add_if(fitting == 1, ExecuteUnsubscribed),
+        1 => {
+            tally.add([ExecuteNone, ExecuteOne, ExecuteSeveral][fitting.min(2)]);
+            tally.add_if(european, ExecuteEuropean);
+        }
+        _ => {
+            let seen = [ExecuteExplicitNone, ExecuteExplicitOne, ExecuteExplicitSeveral];
+            tally.add(seen[fitting.min(2)]);
+            tally.add_if(european, ExecuteExplicitEuropean);
+        }
     }
     tally.add_if(!further(component, Operation::Execute).is_empty(), ExecuteFurther);
     tally.add_if(component[3] == 2, ExecuteLong);

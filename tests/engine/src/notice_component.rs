@@ -15,6 +15,7 @@ use crate::seen_inform::InformSeen;
 use crate::seen_leg::LegSeen;
 use crate::seen_rules::RuleSeen;
 use crate::serve::{pairs, verdict};
+use crate::subscription::both_named;
 use crate::tally::{Seen, Tally};
 
 pub fn served(moment: &Moment, reference: Reference, component: &[u8], past: &mut Past, tally: &mut Tally) {
@@ -34,14 +35,21 @@ pub fn served(moment: &Moment, reference: Reference, component: &[u8], past: &mu
             rejected(component, identifier, sort, problem, tally);
         }
         Reading::Invoke { identifier, operation } => {
-            let american = moment.before.rules() == RuleSet::American;
-            if american && operation == Operation::Execute {
-                let Some(call) = call_of(moment.before, reference) else { return };
-                return notice_american::executed(moment.before, call, component, tally);
+            if operation == Operation::Execute && both_named(moment.before) {
+                return rejected_execute(moment.before, reference, component, tally);
             }
             forms(component, identifier, operation, tally);
             invoked(moment, reference, operation, past, tally);
         }
+    }
+}
+
+/// An EctExecute where both calls must be named. By European rules it is tallied as it stands to that
+/// with the other option (`notice_explicit`).
+fn rejected_execute(board: &Board, reference: Reference, component: &[u8], tally: &mut Tally) {
+    let Some(call) = call_of(board, reference) else { return };
+    if board.rules() == RuleSet::American {
+        notice_american::executed(board, call, component, tally);
     }
 }
 

@@ -101,7 +101,8 @@ fn call_told(board: &Board, row: &Row, past: &Past, tally: &mut Tally) {
     let incoming = call.direction == INCOMING;
     tally.add(if incoming { InformSeen::Incoming } else { InformSeen::Outgoing });
     tally.add_if(call.link.is_some(), InformSeen::Linked);
-    tally.add([InformSeen::Unsubscribed, InformSeen::Subscribed][board.subscribed as usize]);
+    let subscribed = [InformSeen::Unsubscribed, InformSeen::Subscribed, InformSeen::ExplicitOnly];
+    tally.add(subscribed[board.subscribed as usize]);
     let american = board.rules() == RuleSet::American;
     tally.add_if(american && board.subscribed == 0, InformSeen::AmericanUnsubscribed);
     let twin = Reference(call.reference.0 ^ 0x8000);

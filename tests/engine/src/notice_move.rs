@@ -22,7 +22,11 @@ fn bad_options(log: &[u8], way: Way, tally: &mut Tally) {
         [] => MoveSeen::NoOctets,
         [_] => MoveSeen::OneOctet,
         [0 | 1, ..] => MoveSeen::OptionSecond,
-        [_, 0..=3, ..] => MoveSeen::OptionFirst,
+        [2, 4, ..] => MoveSeen::OptionsBad24,
+        [2, ..] => MoveSeen::OptionsBad2,
+        [3, 0..=3, ..] => MoveSeen::OptionFirst3,
+        [0xFF, 0..=3, ..] => MoveSeen::OptionFirstFF,
+        [_, 0..=3, ..] => MoveSeen::OptionFirstElse,
         _ => MoveSeen::OptionBoth,
     };
     tally.add((way, seen));
@@ -32,8 +36,11 @@ fn bad_options(log: &[u8], way: Way, tally: &mut Tally) {
 
 fn moved(log: &[u8], list: &[(&[u8], u8)], way: Way, tally: &mut Tally) {
     use MoveSeen::*;
-    let options =
-        [[Options00, Options01, Options02, Options03], [Options10, Options11, Options12, Options13]];
+    let options = [
+        [Options00, Options01, Options02, Options03],
+        [Options10, Options11, Options12, Options13],
+        [Options20, Options21, Options22, Options23],
+    ];
     tally.add((way, options[log[0] as usize][log[1] as usize]));
     let turned = |record: &[u8]| record[0] == way.turned();
     let count = list.iter().filter(|(record, _)| turned(record)).count();

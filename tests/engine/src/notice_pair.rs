@@ -45,12 +45,12 @@ pub fn looked_up(
 /// The calls whose verdict with the named one is asked for, with their rows.
 fn asked_for<'a>(board: &'a Board, named: &'a Call, operation: Operation) -> Vec<(&'a Row, &'a Call)> {
     let of_operation = |call: &Call| match operation {
-        Operation::Execute => board.rules() == RuleSet::European,
-        Operation::Explicit(link) => call.link == Some(link),
+        Operation::Execute => board.rules() == RuleSet::European && board.subscribed == 1,
+        Operation::Explicit(link) => board.subscribed != 0 && call.link == Some(link),
         Operation::LinkRequest => false,
     };
     let calls = others(board, named).filter_map(|row| Some((row, row.call()?)));
-    calls.filter(|(_, call)| board.subscribed == 1 && of_operation(call)).collect()
+    calls.filter(|(_, call)| of_operation(call)).collect()
 }
 
 /// The verdict on two calls, which the formula and the table have to agree on.

@@ -2,6 +2,7 @@
 
 use crate::board::Board;
 use crate::event::{body_length, event, event_on_sound, Answer};
+use crate::opening;
 use crate::reply::BUFFER;
 use crate::rows::{board_sound, count};
 
@@ -20,7 +21,7 @@ const HEX: [[u8; 2]; 256] = {
 /// The fresh board and the records after the options; none where the options are bad.
 pub fn start(log: &[u8]) -> Option<(Board, &[u8])> {
     let &[subscribed, alerting, ref records @ ..] = log else { return None };
-    match Board::fresh(subscribed, alerting) {
+    match opening::old_log(subscribed, alerting) {
         (0, board) => Some((board, records)),
         _ => None,
     }

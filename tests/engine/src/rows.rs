@@ -22,7 +22,7 @@ pub fn count(rows: &[Row]) -> (u8, Counts) {
 
 /// Soundness of a whole board by the plain rule.
 pub fn board_sound(board: &Board) -> bool {
-    matches!((board.subscribed, board.alerting), (0 | 1, 0..=3)) && sound(&board.rows)
+    matches!((board.subscribed, board.alerting), (0..=2, 0..=3)) && sound(&board.rows)
 }
 
 pub fn sound(rows: &[Row]) -> bool {

@@ -6,6 +6,7 @@ use crate::component::Operation;
 use crate::event::event;
 use crate::invoke::{Invoke, InvokeId, ROOM};
 use crate::odd;
+use crate::opening;
 use crate::opens::Opens;
 use crate::records;
 use crate::reply::BUFFER;
@@ -28,7 +29,7 @@ pub struct Script<'a> {
 
 impl<'a> Script<'a> {
     pub fn new(rng: &'a mut Rng, subscribed: u8, alerting: u8) -> Script<'a> {
-        let (_, board) = Board::fresh(subscribed, alerting);
+        let (_, board) = opening::old_log(subscribed, alerting);
         let log = vec![subscribed, alerting];
         let (starts, old_references, old_links, old_legs) = (Vec::new(), Vec::new(), Vec::new(), Vec::new());
         let (pads, opens) = (true, Opens::Any);

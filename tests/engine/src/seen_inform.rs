@@ -45,6 +45,7 @@ occurrences! {
     Incoming = "Inform told, call incoming",
     Linked = "Inform told, call with a LinkId",
     Subscribed = "Inform told, subscribed",
+    ExplicitOnly = "Inform told, subscribed, explicit only",
     Unsubscribed = "Inform told, not subscribed",
     AmericanUnsubscribed = "Inform told, American, not subscribed",
     Twin = "Inform told beside a reference with the other top bit",

@@ -5,7 +5,7 @@ use crate::moving::Way;
 use crate::tally::{before, occurrences};
 
 occurrences! {
-    MoveSeen, for each Way, behind before(34);
+    MoveSeen, for each Way, behind before(40);
     Options00 = "moved, options 00 00",
     Options01 = "moved, options 00 01",
     Options02 = "moved, options 00 02",
@@ -14,6 +14,10 @@ occurrences! {
     Options11 = "moved, options 01 01",
     Options12 = "moved, options 01 02",
     Options13 = "moved, options 01 03",
+    Options20 = "moved, options 02 00",
+    Options21 = "moved, options 02 01",
+    Options22 = "moved, options 02 02",
+    Options23 = "moved, options 02 03",
     OptionsAlone = "moved, options alone",
     NoneTurned = "moved, records but none turned",
     AllTurned = "moved, several records, all turned",
@@ -49,8 +53,12 @@ occurrences! {
     Returned12 = "played, 12 in both",
     NoOctets = "5: options, no octets",
     OneOctet = "5: options, one octet",
-    OptionFirst = "5: options, first octet",
+    OptionFirst3 = "5: options, first octet 03",
+    OptionFirstFF = "5: options, first octet FF",
+    OptionFirstElse = "5: options, first octet 04 to FE",
     OptionSecond = "5: options, second octet",
+    OptionsBad24 = "5: options 02 04",
+    OptionsBad2 = "5: options, first octet 02, second octet 05 to FF",
     OptionBoth = "5: options, both octets",
     OptionsRecord = "5: options, and a record is bad too",
     FirstRecord = "the first record is bad",
@@ -107,7 +115,7 @@ occurrences! {
 }
 
 occurrences! {
-    ToNewSeen, behind before(36);
+    ToNewSeen, behind before(42);
     Stays0 = "moved, kind 9 of type 0 as it is",
     Stays1 = "moved, kind 9 of type 1 as it is",
     Stays2 = "moved, kind 9 of type 2 as it is",
@@ -115,7 +123,7 @@ occurrences! {
 }
 
 occurrences! {
-    ToOldSeen, behind before(37);
+    ToOldSeen, behind before(43);
     Type1 = "13: type 1",
     Type2 = "13: type 2",
     NoDigits = "13: without digits",

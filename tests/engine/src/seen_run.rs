@@ -4,10 +4,11 @@ use crate::moves::Run;
 use crate::tally::{before, occurrences};
 
 occurrences! {
-    RunSeen, for each Run, behind before(38);
+    RunSeen, for each Run, behind before(44);
     Moved = "moved",
     Turned = "moved, with records turned",
     Alone = "moved, options alone",
+    ExplicitOnly = "moved, first octet 02",
     Options = "refused 0",
     Cut = "3",
     Unknown = "4",
@@ -18,7 +19,7 @@ occurrences! {
 }
 
 occurrences! {
-    InputSeen, behind before(42);
+    InputSeen, behind before(48);
     Typed = "old from standard input, 13",
     TypedFile = "old by a file's name, 13",
     Parts = "log in small parts",

@@ -5,6 +5,7 @@ use crate::component::{read, Operation, Reading, INVOKE, LINK_REQUEST};
 use crate::lookup::Lookup;
 use crate::reply::{Component, Message, Replies, Told, ACTIVE, ALERTING};
 use crate::rules::{alerting_allowed, RuleSet};
+use crate::subscription::{both_named, REFUSED};
 
 pub const NOT_SUBSCRIBED: u8 = 0;
 pub const INVALID_STATE: u8 = 7;
@@ -53,11 +54,10 @@ pub fn serve(
 }
 
 fn decide(board: &Board, place: usize, call: &Call, index: &impl Lookup, operation: Operation) -> Outcome {
-    let rules = board.rules();
-    if rules == RuleSet::American && operation == Operation::Execute {
+    if operation == Operation::Execute && both_named(board) {
         return Outcome::Unrecognised;
     }
-    if board.subscribed == 0 {
+    if board.subscribed == REFUSED {
         return Outcome::Error(NOT_SUBSCRIBED);
     }
     let partner = match operation {

@@ -4,6 +4,7 @@ use std::ops::Range;
 
 pub use crate::seen::Seen;
 use crate::seen_carrier::CarrierSeen;
+use crate::seen_explicit::{AlikeSeen, ExecuteSeen};
 use crate::seen_inform::{InformSeen, NumberSeen};
 use crate::seen_leg::LegSeen;
 use crate::seen_move::{MoveSeen, ToNewSeen, ToOldSeen};
@@ -54,7 +55,7 @@ pub enum Alone {
 }
 
 /// The lists in their order, each with what its texts begin with.
-const LISTS: [(&str, &[&str]); 43] = [
+const LISTS: [(&str, &[&str]); 49] = [
     ("", Seen::TEXTS),
     ("", LegSeen::TEXTS),
     ("", InformSeen::TEXTS),
@@ -89,6 +90,12 @@ const LISTS: [(&str, &[&str]); 43] = [
     ("", InformTypeSeen::TEXTS),
     ("European: ", ConsoleSeen::TEXTS),
     ("American: ", ConsoleSeen::TEXTS),
+    ("European, first octet 01 as with 02: ", AlikeSeen::TEXTS),
+    ("European, first octet 02 as with 01: ", AlikeSeen::TEXTS),
+    ("American, first octet 01 as with 02: ", AlikeSeen::TEXTS),
+    ("American, first octet 02 as with 01: ", AlikeSeen::TEXTS),
+    ("European, EctExecute with first octet 01, invoke problem 1 with 02: ", ExecuteSeen::TEXTS),
+    ("European, EctExecute with first octet 02, invoke problem 1: ", ExecuteSeen::TEXTS),
     ("old to new: ", MoveSeen::TEXTS),
     ("new to old: ", MoveSeen::TEXTS),
     ("old to new: ", ToNewSeen::TEXTS),
@@ -122,8 +129,8 @@ pub struct Tally {
 
 /// The lists of moved logs, counted where logs are played and where the program that moves them is
 /// run; and those of its runs.
-const MOVES: usize = 34;
-const RUNS: usize = 38;
+const MOVES: usize = 40;
+const RUNS: usize = 44;
 
 impl Default for Tally {
     fn default() -> Tally {

@@ -14,7 +14,7 @@ const UNRECOGNISED: &[u8] = &[0xA4, 6, 2, 1, 5, 0x81, 1, 1];
 #[test]
 fn rule_sets_by_option() {
     let expected = [RuleSet::European, RuleSet::European, RuleSet::American, RuleSet::American];
-    assert_eq!([0, 1, 2, 3].map(|alerting| Board::fresh(1, alerting).1.rules()), expected);
+    assert_eq!([0, 1, 2, 3].map(|alerting| Board::empty(1, alerting).rules()), expected);
 }
 
 /// Two calls in each of the situations, on a board of each option: transferred by name just where they
@@ -54,7 +54,7 @@ fn third_calls() {
 /// What cannot be read is rejected as by European rules, and an EctExecute whatever lies behind it.
 #[test]
 fn components() {
-    for (subscribed, alerting) in [(0, 2), (1, 3)] {
+    for (subscribed, alerting) in [(0, 2), (1, 3), (2, 2)] {
         let mut desk = Desk::new(subscribed, alerting);
         desk.call(1, 0, 10, 0);
         assert_eq!(desk.ask(1, &records::invoke(&[ID, &[2, 1, 6], &[0x30, 2, 5, 0]])), UNRECOGNISED);

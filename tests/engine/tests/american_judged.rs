@@ -2,11 +2,9 @@
 
 mod common;
 
-use common::{dropped, error, met, reply, tell, two_idle, Desk, DONE, ID};
+use common::{dropped, error, judged, met, reply, tell, two_idle, Desk, DONE, ID};
 use engine::american::{stands, wish, Wish};
 use engine::board::{Board, LinkId, Number, Reference, Standing};
-use engine::event::event;
-use engine::notice::Moment;
 use engine::records::{
     self, answer, execute, explicit, explicit_link, facility, link_request, open, progress,
 };
@@ -29,19 +27,6 @@ fn components_by_their_places() {
     }
 }
 
-/// What a wrong program would have done at an event is at fault; what was done is not.
-fn judged(before: &Board, record: &[u8], wrong: impl Fn(&mut Vec<u8>, &mut Board)) -> Result<(), String> {
-    let (mut after, mut buffer) = (before.clone(), [0; 128]);
-    let done = event(&mut after, record, &mut buffer);
-    let judge = |written: &[u8], after: &Board| {
-        stands(&Moment { before, after, record, returned: done.returned, written })
-    };
-    let mut written = buffer[..done.written].to_vec();
-    assert_eq!(judge(&written, &after), Ok(()));
-    wrong(&mut written, &mut after);
-    judge(&written, &after)
-}
-
 type Wrong = fn(&mut Vec<u8>, &mut Board);
 
 /// Presentations and digits of two parties.
@@ -61,7 +46,7 @@ fn wrong_transfers_are_faults() {
         let mut desk = two_idle(2, 10, SHOWN);
         let link = desk.link(2).unwrap();
         for component in [explicit_link(ID, link), with_null(&explicit_link(ID, link))] {
-            assert!(judged(&desk.board, &facility(Reference(1), &component), wrong).is_err());
+            assert!(judged(stands, &desk.board, &facility(Reference(1), &component), wrong).is_err());
         }
     }
 }
@@ -77,7 +62,7 @@ fn a_tell_to_the_alerting_party_is_a_fault() {
     let link = desk.link(2).unwrap();
     let wrong: Wrong = |written, _| written.extend(tell(9, 1, 0xEA, 1, 0, b"21"));
     for component in [explicit_link(ID, link), with_null(&explicit_link(ID, link))] {
-        assert!(judged(&desk.board, &facility(Reference(1), &component), wrong).is_err());
+        assert!(judged(stands, &desk.board, &facility(Reference(1), &component), wrong).is_err());
     }
 }
 
@@ -95,7 +80,7 @@ fn wrong_answers_are_faults() {
         |_, board| board.rows[0].number = Number::NONE,
     ];
     for wrong in wrongs {
-        assert!(judged(&desk.board, &answer(9), wrong).is_err());
+        assert!(judged(stands, &desk.board, &answer(9), wrong).is_err());
     }
 }
 
@@ -122,7 +107,9 @@ fn wrong_types_are_faults() {
         let link = desk.link(2).unwrap();
         desk.board.rows[1].number_type = number_type;
         desk.board.rows[0].number_type = number_type;
-        assert!(judged(&desk.board, &facility(Reference(1), &explicit_link(ID, link)), wrong).is_err());
+        assert!(
+            judged(stands, &desk.board, &facility(Reference(1), &explicit_link(ID, link)), wrong).is_err()
+        );
     }
 }
 
@@ -131,18 +118,18 @@ fn wrong_errors_are_faults() {
     let mut desk = Desk::new(0, 2);
     desk.call(1, 0, 10, 0);
     let wrong: Wrong = |written, _| *written = reply(1, &error(0));
-    assert!(judged(&desk.board, &facility(Reference(1), &execute(ID)), wrong).is_err());
+    assert!(judged(stands, &desk.board, &facility(Reference(1), &execute(ID)), wrong).is_err());
     desk.board.subscribed = 1;
     let link = desk.link(1).unwrap();
     let wrong: Wrong = |written, board| {
         *written = [reply(1, DONE), dropped(1, 1)].concat();
         board.rows[0].standing = Standing::Joined { partner: 101, alerts: false };
     };
-    assert!(judged(&desk.board, &facility(Reference(1), &explicit_link(ID, link)), wrong).is_err());
+    assert!(judged(stands, &desk.board, &facility(Reference(1), &explicit_link(ID, link)), wrong).is_err());
     desk.call(2, 0, 10, 0);
     let link = desk.link(2).unwrap();
     let wrong: Wrong = |written, _| *written = reply(1, &error(7));
-    assert!(judged(&desk.board, &facility(Reference(1), &explicit_link(ID, link)), wrong).is_err());
+    assert!(judged(stands, &desk.board, &facility(Reference(1), &explicit_link(ID, link)), wrong).is_err());
 }
 
 /// What occurs in a log of these events on calls 1 and 2 with legs 101 and 102, Active and Idle or so.

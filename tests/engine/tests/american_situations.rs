@@ -3,7 +3,7 @@
 mod common;
 
 use common::{dropped, error, reply, tell, Desk, DONE, ID};
-use engine::board::{Aux, Board, Call, CallState, LinkId, Reference};
+use engine::board::{Aux, Call, CallState, LinkId, Reference};
 use engine::records::{answer, execute, explicit_link, facility, link_request};
 use engine::rules::RuleSet;
 use engine::serve::verdict;
@@ -55,8 +55,8 @@ fn explicit_with_own_link_id() {
 }
 
 #[test]
-fn execute_subscribed_or_not() {
-    for (subscribed, alerting) in [(0, 2), (0, 3), (1, 2), (1, 3)] {
+fn execute_whatever_the_option_subscribed() {
+    for (subscribed, alerting) in [(0, 2), (0, 3), (1, 2), (1, 3), (2, 2), (2, 3)] {
         let mut desk = Desk::new(subscribed, alerting);
         desk.call(1, 0, 10, 2);
         assert_eq!(desk.ask(1, &execute(ID)), UNRECOGNISED);
@@ -130,10 +130,4 @@ fn the_leg_that_alerts_answers() {
             assert_eq!(common::refused(&desk.board, &answer(101)), 11);
         }
     }
-}
-
-#[test]
-fn options_of_a_board() {
-    assert_eq!([(0, 3), (1, 2)].map(|(first, second)| Board::fresh(first, second).0), [0, 0]);
-    assert_eq!([(0, 4), (1, 4), (2, 0)].map(|(first, second)| Board::fresh(first, second).0), [5, 5, 5]);
 }

@@ -123,7 +123,7 @@ fn tested_once_or_at_each_event() {
     let mut rng = Rng::new(31);
     let mut logs: Vec<_> = (0..200).map(|_| steered(&mut rng)).collect();
     logs.extend([4, 16, 64].map(|legs| load::log(&mut rng, legs, 2_000).0));
-    logs.extend([vec![], vec![1], vec![2, 0], vec![1, 1], vec![1, 3], vec![0, 4]]);
+    logs.extend([vec![], vec![1], vec![2, 0], vec![3, 0], vec![1, 1], vec![1, 3], vec![0, 4]]);
     for log in &logs {
         let (mut each, mut once) = (Vec::new(), Vec::new());
         assert_eq!(play(log, &mut each), play_tested_once(log, &mut once));

@@ -57,7 +57,7 @@ fn active_calls_under_any_options() {
 #[test]
 fn calls_in_other_states() {
     for (direction, state, aux) in [(0, 3, 0), (0, 4, 0), (0, 4, 1), (0, 4, 2), (0, 4, 3), (1, 7, 0)] {
-        for subscribed in [0, 1] {
+        for subscribed in [0, 1, 2] {
             let mut desk = Desk::new(subscribed, 1);
             desk.call(1, direction, state, aux);
             for (argument, _) in forms(101) {
@@ -121,7 +121,7 @@ fn joined_legs_have_no_call() {
 /// On a call the operation is one that is not served, with its argument or without.
 #[test]
 fn in_a_facility() {
-    for subscribed in [0, 1] {
+    for subscribed in [0, 1, 2] {
         let mut desk = Desk::new(subscribed, 1);
         desk.call(1, 0, 10, 0);
         for argument in forms(101).into_iter().map(|(argument, _)| argument).chain([vec![]]) {

@@ -101,7 +101,7 @@ fn any_leg_number() {
 #[test]
 fn served_in_any_state() {
     for (direction, state, aux) in [(0, 3, 0), (0, 4, 0), (0, 4, 2), (1, 7, 0), (1, 10, 0), (0, 10, 3)] {
-        for subscribed in [0, 1] {
+        for subscribed in [0, 1, 2] {
             let mut desk = Desk::new(subscribed, 1);
             desk.call(1, direction, state, aux);
             assert_eq!(refused(&desk.board, &leg_facility(101, &right())), 11);
@@ -113,7 +113,7 @@ fn served_in_any_state() {
 /// On a call the operation is one that is not served, with its argument or without.
 #[test]
 fn in_a_facility() {
-    for subscribed in [0, 1] {
+    for subscribed in [0, 1, 2] {
         let mut desk = Desk::new(subscribed, 1);
         desk.call(1, 0, 10, 0);
         for argument in

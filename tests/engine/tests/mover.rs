@@ -22,7 +22,9 @@ fn moved_and_refused() {
         assert_eq!(of(&[1, 3]), ended(&[1, 3], "", 0));
         assert_eq!(of(&log(&[&release])), ended(&log(&[&release]), "", 0));
         assert_eq!(of(&[]), ended(&[], "refused 0\n", 5));
+        assert_eq!(of(&[2, 0]), ended(&[2, 0], "", 0));
         assert_eq!(of(&[1, 4]), ended(&[], "refused 0\n", 5));
+        assert_eq!(of(&[3, 0]), ended(&[], "refused 0\n", 5));
         assert_eq!(of(&log(&[&release, &release[..4]])), ended(&[], "refused 2\n", 3));
         assert_eq!(of(&log(&[&[0]])), ended(&[], "refused 1\n", 4));
         assert_eq!(of(&log(&[&release.repeat(11), &[2, 0, 0, 4]])), ended(&[], "refused 12\n", 5));

@@ -61,7 +61,9 @@ fn options_alone() {
             assert_eq!(moved_log(&[first, second], way), Ok(vec![first, second]));
         }
     }
-    for bad in [&[] as &[u8], &[0], &[1], &[2], &[2, 0], &[0, 4], &[1, 4], &[255, 255]] {
+    for bad in
+        [&[] as &[u8], &[0], &[1], &[2], &[3, 0], &[0, 4], &[1, 4], &[2, 4], &[3, 4], &[255, 0], &[255, 255]]
+    {
         assert_eq!(both(bad), [(5, 0); 2]);
         if bad.len() == 2 {
             assert_eq!(both(&[bad, &OLD, &[0]].concat()), [(5, 0); 2]);
@@ -177,7 +179,7 @@ fn targets() {
 #[test]
 fn nothing_forbidden_happens() {
     let (mut rng, mut tally) = (Rng::new(51), Tally::default());
-    for _ in 0..200 {
+    for _ in 0..300 {
         let log = steered(&mut rng);
         let near = near_move::log(&mut rng, &log);
         for log in [log, near] {

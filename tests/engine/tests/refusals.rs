@@ -3,11 +3,11 @@
 mod common;
 
 use common::{one_of_each_kind, refused_with as refused, Desk};
-use engine::board::{Board, LinkId, Reference, Row, Standing, RESTRICTED};
+use engine::board::{Board, Reference, Row, Standing, RESTRICTED};
 use engine::records::{answer, execute, facility, hold, inform, open, progress, release, typed};
 
 fn unsound() -> Board {
-    let (_, mut board) = Board::fresh(1, 1);
+    let mut board = Board::empty(1, 1);
     board.rows[63].leg = 1;
     board
 }
@@ -21,23 +21,6 @@ fn full() -> Desk {
 }
 
 #[test]
-fn fresh_board_options() {
-    for subscribed in 0..=255 {
-        for alerting in 0..=255 {
-            let (returned, board) = Board::fresh(subscribed, alerting);
-            let good = subscribed <= 1 && alerting <= 3;
-            assert_eq!(returned, if good { 0 } else { 5 }, "{subscribed} {alerting}");
-            assert_eq!(
-                (board.subscribed, board.alerting),
-                if good { (subscribed, alerting) } else { (0, 0) }
-            );
-            assert!(board.rows.iter().all(|row| *row == Row::EMPTY));
-            assert_eq!(board.candidate, LinkId(0));
-        }
-    }
-}
-
-#[test]
 fn buffer_comes_first() {
     assert_eq!(refused(&unsound(), &[], 127), 1);
     assert_eq!(refused(&unsound(), &[], 0), 1);
@@ -46,7 +29,7 @@ fn buffer_comes_first() {
 
 #[test]
 fn soundness_comes_before_the_record() {
-    let (_, sound) = Board::fresh(1, 1);
+    let sound = Board::empty(1, 1);
     for record in [&[] as &[u8], &[0], &[4], &[4, 0, 0, 0, 0]] {
         assert_eq!(refused(&unsound(), record, 128), 2);
     }
@@ -55,7 +38,7 @@ fn soundness_comes_before_the_record() {
 
 #[test]
 fn kind_comes_before_length() {
-    let (_, board) = Board::fresh(1, 1);
+    let board = Board::empty(1, 1);
     for kind in [0, 10, 0x81, 0x86, 255] {
         assert_eq!(refused(&board, &[kind], 128), 4);
         assert_eq!(refused(&board, &[kind; 25], 128), 4);
@@ -116,7 +99,7 @@ fn fields_of_open_with_a_type() {
 
 #[test]
 fn fields_of_the_others() {
-    let (_, board) = Board::fresh(1, 1);
+    let board = Board::empty(1, 1);
     for state in (0..=255).filter(|state| ![4, 10].contains(state)) {
         assert_eq!(refused(&board, &progress(Reference(1), state), 128), 5);
     }

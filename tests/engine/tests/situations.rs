@@ -233,7 +233,7 @@ fn alerting_calls_count_only_where_the_option_allows() {
 
 #[test]
 fn buffer_of_127_and_of_128() {
-    let (_, mut board) = Board::fresh(1, 1);
+    let mut board = Board::empty(1, 1);
     let record = records::open(Reference(1), 1, 0, 0, b"");
     assert_eq!(event(&mut board, &record, &mut [0; 127]).returned, 1);
     assert_eq!(event(&mut board, &record, &mut [0; 128]).returned, 0);

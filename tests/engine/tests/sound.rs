@@ -35,7 +35,7 @@ fn busy() -> Desk {
 #[test]
 fn each_rule_of_soundness() {
     let changes: [fn(&mut Board); 23] = [
-        |board| board.subscribed = 2,
+        |board| board.subscribed = 3,
         |board| board.alerting = 4,
         |board| board.rows[63].leg = 1,
         |board| board.rows[63].presentation = 1,
@@ -70,11 +70,13 @@ fn each_rule_of_soundness() {
 fn options_of_a_sound_board() {
     let mut board = busy().board;
     for option in 0..=255 {
-        (board.subscribed, board.alerting) = (1, option);
-        assert_eq!(sound(&board), option <= 3, "alerting {option}");
+        for subscribed in 0..=2 {
+            (board.subscribed, board.alerting) = (subscribed, option);
+            assert_eq!(sound(&board), option <= 3, "subscribed {subscribed}, alerting {option}");
+        }
         for alerting in 0..=3 {
             (board.subscribed, board.alerting) = (option, alerting);
-            assert_eq!(sound(&board), option <= 1, "subscribed {option}, alerting {alerting}");
+            assert_eq!(sound(&board), option <= 2, "subscribed {option}, alerting {alerting}");
         }
     }
 }

@@ -32,7 +32,7 @@ fn worked_log() {
 #[test]
 fn options() {
     let short: [&[u8]; 4] = [&[], &[0], &[1], &[2]];
-    let bad: [&[u8]; 6] = [&[2, 0], &[0, 4], &[1, 4], &[2, 3], &[255, 255], &[0, 4, 4, 0, 0, 0, 0]];
+    let bad: [&[u8]; 7] = [&[3, 0], &[0, 4], &[1, 4], &[2, 4], &[3, 3], &[255, 255], &[0, 4, 4, 0, 0, 0, 0]];
     for bad in short.iter().chain(&bad) {
         assert_eq!(text(bad), "bad options\n");
     }

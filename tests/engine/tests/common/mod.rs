@@ -3,14 +3,16 @@
 
 use engine::board::{Aux, Board, Call, CallState, LinkId, Reference};
 use engine::event::event;
-use engine::notice::watch;
+use engine::notice::{watch, Moment};
+use engine::opening::old_log;
 use engine::records;
 use engine::tally::Tally;
 
 pub const ID: &[u8] = &[0x02, 0x01, 0x05];
 
 /// All options of a board.
-pub const OPTIONS: [(u8, u8); 8] = [(0, 0), (0, 1), (0, 2), (0, 3), (1, 0), (1, 1), (1, 2), (1, 3)];
+pub const OPTIONS: [(u8, u8); 12] =
+    [(0, 0), (0, 1), (0, 2), (0, 3), (1, 0), (1, 1), (1, 2), (1, 3), (2, 0), (2, 1), (2, 2), (2, 3)];
 
 /// One record of each kind.
 pub fn one_of_each_kind() -> [Vec<u8>; 9] {
@@ -33,7 +35,7 @@ pub struct Desk {
 
 impl Desk {
     pub fn new(subscribed: u8, alerting: u8) -> Desk {
-        let (returned, board) = Board::fresh(subscribed, alerting);
+        let (returned, board) = old_log(subscribed, alerting);
         assert_eq!(returned, 0);
         Desk { board }
     }
@@ -199,3 +201,21 @@ pub fn error(value: u8) -> Vec<u8> {
 
 pub const NOT_ASSIGNED: &[u8] = &[0xA3, 11, 2, 1, 5, 6, 6, 4, 0, 0x82, 0x71, 1, 0x15];
 pub const DONE: &[u8] = &[0xA2, 3, 2, 1, 5];
+
+/// What a wrong program would have done at an event is at fault; what was done is not.
+pub fn judged(
+    stands: fn(&Moment) -> Result<(), String>,
+    before: &Board,
+    record: &[u8],
+    wrong: impl Fn(&mut Vec<u8>, &mut Board),
+) -> Result<(), String> {
+    let (mut after, mut buffer) = (before.clone(), [0; 128]);
+    let done = event(&mut after, record, &mut buffer);
+    let judge = |written: &[u8], after: &Board| {
+        stands(&Moment { before, after, record, returned: done.returned, written })
+    };
+    let mut written = buffer[..done.written].to_vec();
+    assert_eq!(judge(&written, &after), Ok(()));
+    wrong(&mut written, &mut after);
+    judge(&written, &after)
+}
