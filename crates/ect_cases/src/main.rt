@@ -1,6 +1,7 @@
 // Runs cases and prints a line for each: every refusal of `step`, an Inform, transfers on boards for old logs, one with
 // a subaddress passed on and one of a number with a type, on live boards one explicit only and one by American rules,
-// README's sample, invokes that are written and read back, integers that are padded or not, and forms of subaddresses.
+// README's sample, invokes that are written and read back, integers that are padded or not, forms of subaddresses, and
+// all the short histories.
 #![tactic(auto)]
 
 use board::{Board, Direction, Options};
@@ -9,6 +10,7 @@ use records::{inform, leg_facility, open};
 use show::Returned;
 use std::io;
 
+mod histories;
 mod invoking;
 mod padding;
 mod records;
@@ -135,5 +137,7 @@ fn main(rt: HostRuntime) -> io::Result<()> {
     invoking::written_and_read(&rt)?;
     invoking::buffers(&rt)?;
     padding::padded_or_not(&rt)?;
-    subaddress::forms(&rt)
+    subaddress::forms(&rt)?;
+    histories::records(&rt)?;
+    histories::all(&rt)
 }

@@ -1,6 +1,6 @@
 //! Comparing another player's text with the engine's, octet by octet.
 
-use crate::logs::{Logs, CYCLES, LEAST_EVENTS};
+use crate::logs::{self, CYCLES, LEAST_EVENTS};
 use crate::moved;
 use crate::near_move;
 use crate::notice::{watch, Fault};
@@ -41,7 +41,7 @@ fn shown(line: Option<&[u8]>) -> String {
 pub fn engine_alone(seed: u64) -> Result<Tally, String> {
     let mut tally = Tally::default();
     let mut rng = Rng::new(seed);
-    for log in Logs::new(seed) {
+    for log in logs::all(seed) {
         watched(&log, &mut rng, &mut tally)?;
     }
     finished(&tally)?;
@@ -53,7 +53,7 @@ pub fn against(path: &str, seed: u64) -> Result<Tally, String> {
     let program = Program::new(path, &[]);
     let mut tally = Tally::default();
     let (mut rng, mut expected) = (Rng::new(seed), Vec::new());
-    for (number, log) in Logs::new(seed).enumerate() {
+    for (number, log) in logs::all(seed).enumerate() {
         watched(&log, &mut rng, &mut tally)?;
         expected.clear();
         play(&log, &mut expected);

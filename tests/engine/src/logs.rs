@@ -3,6 +3,7 @@
 use crate::actions::{step, Style};
 use crate::cycle;
 use crate::damage::damage;
+use crate::history_logs;
 use crate::opens::Opens;
 use crate::rng::Rng;
 use crate::script::Script;
@@ -57,6 +58,11 @@ const COMBINED: [u32; 12] = [12, 6, 1, 1, 8, 4, 22, 18, 3, 3, 16, 12];
 const OTHERWISE: [u32; 12] = [42, 21, 11, 11, 16, 10, 9, 5, 4, 4, 9, 5];
 
 const OPENS: [Opens; 3] = [Opens::Old, Opens::Moved, Opens::Any];
+
+/// All logs of a seed, and those that no seed changes.
+pub fn all(seed: u64) -> impl Iterator<Item = Vec<u8>> {
+    Logs::new(seed).chain(history_logs::logs())
+}
 
 pub struct Logs {
     rng: Rng,

@@ -12,6 +12,7 @@ use crate::notice_answer;
 use crate::notice_carrier;
 use crate::notice_component;
 use crate::notice_explicit;
+use crate::notice_history;
 use crate::notice_inform;
 use crate::notice_invoke::rewritten;
 use crate::notice_leg;
@@ -116,6 +117,7 @@ pub fn watch(log: &[u8], tally: &mut Tally) -> Result<(), Fault> {
         tally.add_if(record[0] == OPEN_TYPED && after.len() == 1, TypeSeen::OneBehind);
         rest = after;
     }
+    notice_history::notice(log, tally);
     tally.events += number as u64;
     Ok(())
 }

@@ -5,7 +5,7 @@ use crate::moving::Way;
 use crate::tally::{before, occurrences};
 
 occurrences! {
-    MoveSeen, for each Way, behind before(40);
+    MoveSeen, for each Way, behind before(41);
     Options00 = "moved, options 00 00",
     Options01 = "moved, options 00 01",
     Options02 = "moved, options 00 02",
@@ -115,7 +115,7 @@ occurrences! {
 }
 
 occurrences! {
-    ToNewSeen, behind before(42);
+    ToNewSeen, behind before(43);
     Stays0 = "moved, kind 9 of type 0 as it is",
     Stays1 = "moved, kind 9 of type 1 as it is",
     Stays2 = "moved, kind 9 of type 2 as it is",
@@ -123,7 +123,7 @@ occurrences! {
 }
 
 occurrences! {
-    ToOldSeen, behind before(43);
+    ToOldSeen, behind before(44);
     Type1 = "13: type 1",
     Type2 = "13: type 2",
     NoDigits = "13: without digits",

@@ -4,7 +4,7 @@ use crate::moves::Run;
 use crate::tally::{before, occurrences};
 
 occurrences! {
-    RunSeen, for each Run, behind before(44);
+    RunSeen, for each Run, behind before(45);
     Moved = "moved",
     Turned = "moved, with records turned",
     Alone = "moved, options alone",
@@ -19,7 +19,7 @@ occurrences! {
 }
 
 occurrences! {
-    InputSeen, behind before(48);
+    InputSeen, behind before(49);
     Typed = "old from standard input, 13",
     TypedFile = "old by a file's name, 13",
     Parts = "log in small parts",

@@ -5,6 +5,7 @@ use std::ops::Range;
 pub use crate::seen::Seen;
 use crate::seen_carrier::CarrierSeen;
 use crate::seen_explicit::{AlikeSeen, ExecuteSeen};
+use crate::seen_history::HistorySeen;
 use crate::seen_inform::{InformSeen, NumberSeen};
 use crate::seen_leg::LegSeen;
 use crate::seen_move::{MoveSeen, ToNewSeen, ToOldSeen};
@@ -55,7 +56,7 @@ pub enum Alone {
 }
 
 /// The lists in their order, each with what its texts begin with.
-const LISTS: [(&str, &[&str]); 49] = [
+const LISTS: [(&str, &[&str]); 50] = [
     ("", Seen::TEXTS),
     ("", LegSeen::TEXTS),
     ("", InformSeen::TEXTS),
@@ -96,6 +97,7 @@ const LISTS: [(&str, &[&str]); 49] = [
     ("American, first octet 02 as with 01: ", AlikeSeen::TEXTS),
     ("European, EctExecute with first octet 01, invoke problem 1 with 02: ", ExecuteSeen::TEXTS),
     ("European, EctExecute with first octet 02, invoke problem 1: ", ExecuteSeen::TEXTS),
+    ("short history ", HistorySeen::TEXTS),
     ("old to new: ", MoveSeen::TEXTS),
     ("new to old: ", MoveSeen::TEXTS),
     ("old to new: ", ToNewSeen::TEXTS),
@@ -129,8 +131,8 @@ pub struct Tally {
 
 /// The lists of moved logs, counted where logs are played and where the program that moves them is
 /// run; and those of its runs.
-const MOVES: usize = 40;
-const RUNS: usize = 44;
+const MOVES: usize = 41;
+const RUNS: usize = 45;
 
 impl Default for Tally {
     fn default() -> Tally {
