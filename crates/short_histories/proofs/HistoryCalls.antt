@@ -73,7 +73,7 @@ accepted_alike b (n ∷ ns) (c ∷ cs) e s h =
 listed_some : (h : History) (o : Option (List ℕ)) → listed_answer (Ok h) ≡ listed o → o ≡ Some (numbers_of h)
 listed_some h None e = absurd (let z : ◌≡◌ {A = ℕ} 0 15 = ap (λ x. x.returned) e in omega arith)
 listed_some h (Some ns) e = ap (λ (x : List ℕ). Some x)
-    (sym (ap₂ take (ap (λ x. x.length) e) (ap (λ x. x.numbers) e) ∙ take_at ns (replicate (4 - length ns) 0) (length ns) refl))
+    (sym (ap₂ take (ap (λ x. x.events) e) (ap (λ x. x.numbers) e) ∙ take_at ns (replicate (4 - length ns) 0) (length ns) refl))
 
 -- the numbers of a history that is answered stand in the list at that place
 got : (place : ℕ) (h : History) → listed_answer (Ok h) ≡ history_at place → slice_get histories place ≡ Some (numbers_of h)

@@ -149,17 +149,17 @@ padded (a ∷ b ∷ c ∷ []) h = refl
 padded (a ∷ b ∷ c ∷ d ∷ []) h = refl
 padded (a ∷ b ∷ c ∷ d ∷ e ∷ ns) h = absurd (omega arith)
 
-listed_of : (k : ℕ) (ns : List ℕ) → length ns ≡ k → k ≤ 4 → record { returned = 0; length = k; numbers = take 4 (ns ++ replicate 4 0) } ≡ listed (Some ns)
+listed_of : (k : ℕ) (ns : List ℕ) → length ns ≡ k → k ≤ 4 → record { returned = 0; events = k; numbers = take 4 (ns ++ replicate 4 0) } ≡ listed (Some ns)
 listed_of k ns e h = rw (← e, padded ns (omega (arith, e))) refl
 
 pub listed_at : (b : Board) (p q k : ℕ) {xs : List ℕ} → b ≡ first_board → k ≤ 4 → found_in p (shorter k b) ≡ Beyond q → Numbers xs ≡ found_of (found_in q (long k b)) →
-    record { returned = 0; length = k; numbers = xs } ≡ history_at p
+    record { returned = 0; events = k; numbers = xs } ≡ history_at p
 unfolding history_at histories
 listed_at b p q k d h e f =
     let r = numbers_at (found_in q (long k b)) f in
     let g : found_in p (up_to accepts_number after_number k b) ≡ At r.0 = rw (next_length b p k, e) r.1 in
     rw (← d, r.2, got_at p (up_to accepts_number after_number 4 b) (stays b p k 4 h g)) (listed_of k r.0 (long_at b q k r.1) h)
 
-pub listed_past : (b : Board) (p q k : ℕ) → b ≡ first_board → k ≡ 5 → found_in p (shorter k b) ≡ Beyond q → record { returned = 15; length = 0; numbers = replicate 4 0 } ≡ history_at p
+pub listed_past : (b : Board) (p q k : ℕ) → b ≡ first_board → k ≡ 5 → found_in p (shorter k b) ≡ Beyond q → record { returned = 15; events = 0; numbers = replicate 4 0 } ≡ history_at p
 unfolding history_at histories shorter
 listed_past b p q k d h e = let f : found_in p (shorter 5 b) ≡ Beyond q = rw h at e in rw (← d, slice_get_past (up_to accepts_number after_number 4 b) p (found_beyond p (up_to accepts_number after_number 4 b) f).0) refl

@@ -56,16 +56,17 @@ histories = up_to accepts_number after_number most_events first_board
 
 -- ---- what a caller gets
 
--- a number, and a sequence: its length, and its numbers in four octets, those behind them 0
+-- a number, and a sequence: its length, which is how many events it has, and its numbers in four octets, those behind
+-- them 0
 pub record Listed : Type 0 where
   pub returned : ℕ
-  pub length : ℕ
+  pub events : ℕ
   pub numbers : List ℕ
 
 -- "gets its length and its numbers"; "15 for a place at or past the list's length, with an empty sequence returned"
 abbrev pub listed : Option (List ℕ) → Listed
-listed (Some ns) = record { returned = 0; length = length ns; numbers = ns ++ replicate (most_events - length ns) 0 }
-listed None = record { returned = 15; length = 0; numbers = replicate most_events 0 }
+listed (Some ns) = record { returned = 0; events = length ns; numbers = ns ++ replicate (most_events - length ns) 0 }
+listed None = record { returned = 15; events = 0; numbers = replicate most_events 0 }
 
 -- "A caller asks for the sequence at a place in the list, counted from 0"
 unfoldable pub history_at : ℕ → Listed
@@ -77,5 +78,5 @@ past_the_end_number e = 15
 
 -- the number and the sequence that each case of the code's answer stands for
 abbrev pub listed_answer : Result History PastTheEnd → Listed
-listed_answer (Ok h) = record { returned = 0; length = h.length; numbers = h.numbers }
-listed_answer (Err e) = record { returned = past_the_end_number e; length = e.history.length; numbers = e.history.numbers }
+listed_answer (Ok h) = record { returned = 0; events = h.length; numbers = h.numbers }
+listed_answer (Err e) = record { returned = past_the_end_number e; events = e.history.length; numbers = e.history.numbers }

@@ -2,7 +2,8 @@
 #![tactic(auto)]
 
 ghost use Rattle.std.specs.Prelude.{◌≡◌};
-ghost use Rattle.short_histories.specs.Histories.{record_numbered, first_board, past_the_end_number, history_at, listed_answer};
+ghost use Rattle.short_histories.specs.Histories.{record_numbered, first_board, past_the_end_number};
+ghost use Rattle.short_histories.specs.Histories.{history_at, listed_answer};
 ghost use Rattle.short_histories.specs.Code.Finding.{found_in};
 ghost use Rattle.short_histories.specs.Code.Walking.{after_accepted, long, beginning, found_of, in_front};
 
@@ -47,7 +48,8 @@ enum Found {
     Left(usize),
 }
 
-// The event record of a number: Open of two calls, Progress of each to Active, Release of each. No other number has one.
+// The event record of a number: Open of two calls, Progress of each to Active, Release of each. No other number has
+// one.
 pub fn event_record(number: u8) -> &'static [u8]
     ensures { result.now ≡ record_numbered number }
 {
