@@ -5,19 +5,25 @@ use std::io::{self, Read, Write};
 use std::process::ExitCode;
 use std::time::Instant;
 
+use engine::archiver;
 use engine::compare::{against, engine_alone};
+use engine::ended::Ended;
 use engine::logs::DEFAULT_SEED;
-use engine::mover::{self, CANNOT_WRITE};
+use engine::mover;
 use engine::play::{play, play_tested_once};
 use engine::rng::Rng;
 use engine::tally::Tally;
-use engine::{load, moves, timing};
+use engine::{archives, load, moves, timing};
 
 const USAGE: &str = "engine check PATH [SEED]   compare a player with the engine
 engine time PATH           speed of a player and of the engine
 engine moves PATH [SEED]   compare a mover of logs with the engine
+engine archives PATH [SEED]
+                           compare a packer of logs with the engine
 engine play [once]         play the log on standard input; once: the board is tested once
 engine move new|old [FILE] move the log on standard input, or in a file, to that form
+engine archive pack|unpack [FILE]
+                           pack the log, or unpack the archive, on standard input or in a file
 engine load LEGS EVENTS    write a log that keeps about so many legs
 engine self [SEED]         play the logs through the engine alone";
 
@@ -28,9 +34,13 @@ fn main() -> ExitCode {
         ["check", path, seed @ ..] => run(seed, |seed| against(path, seed)),
         ["self", seed @ ..] => run(seed, engine_alone),
         ["moves", path, seed @ ..] => run(seed, |seed| moves::against(path, seed)),
+        ["archives", path, seed @ ..] => run(seed, |seed| archives::against(path, seed)),
         ["time", path] => time(path),
         ["play"] => play_input(play),
-        ["move", words @ ..] => return move_input(words),
+        ["move", words @ ..] => return ended(mover::run(words, io::stdin()), mover::CANNOT_WRITE),
+        ["archive", words @ ..] => {
+            return ended(archiver::run(words, io::stdin()), archiver::CANNOT_WRITE);
+        }
         ["play", "once"] => play_input(play_tested_once),
         ["load", legs, events] => load(legs, events),
         _ => Err(USAGE.to_string()),
@@ -71,11 +81,10 @@ fn play_input(play: fn(&[u8], &mut Vec<u8>) -> u64) -> Result<(), String> {
     write_output(&text)
 }
 
-/// As the product's program does it.
-fn move_input(words: &[&str]) -> ExitCode {
-    let ended = mover::run(words, io::stdin());
+/// As the product's programs end.
+fn ended(ended: Ended, cannot_write: &str) -> ExitCode {
     if write_output(&ended.output).is_err() {
-        eprint!("{CANNOT_WRITE}");
+        eprint!("{cannot_write}");
         return ExitCode::FAILURE;
     }
     eprint!("{}", String::from_utf8_lossy(&ended.errors));

@@ -3,6 +3,7 @@
 use std::fs;
 use std::io::Read;
 
+use crate::ended::Ended;
 use crate::moving::{moved_log, Way};
 
 /// The most octets of a log on standard input.
@@ -11,20 +12,6 @@ pub const USAGE: &str = "usage: ect_move new|old [FILE]\n";
 pub const CANNOT_READ: &str = "ect_move: cannot read\n";
 pub const CANNOT_WRITE: &str = "ect_move: cannot write\n";
 pub const TOO_LARGE: &str = "ect_move: the log is larger than 65536 octets: name its file\n";
-
-/// What a program has written on either stream, and its exit status.
-#[derive(Clone, PartialEq, Eq, Debug, Default)]
-pub struct Ended {
-    pub output: Vec<u8>,
-    pub errors: Vec<u8>,
-    pub status: i32,
-}
-
-impl Ended {
-    pub fn with_error(line: &str, status: i32) -> Ended {
-        Ended { errors: line.as_bytes().to_vec(), status, ..Ended::default() }
-    }
-}
 
 pub fn run(words: &[&str], input: impl Read) -> Ended {
     match words {

@@ -1,19 +1,16 @@
 //! The program that moves logs, compared with the engine's own moving: standard output octet by octet,
 //! standard error, and exit status.
 
-use std::fs::{self, File};
-use std::path::PathBuf;
-use std::process::Stdio;
-
 use crate::compare::hex;
 use crate::each_move;
 use crate::logs::steered;
 use crate::moved;
-use crate::mover::{self, Ended};
+use crate::mover;
 use crate::moving::{judge, records, Way};
 use crate::near_move;
-use crate::program::{Feed, Program};
+use crate::program::Feed;
 use crate::rng::Rng;
+use crate::runner::{Input, Runner};
 use crate::seen_run::{InputSeen, RunSeen};
 use crate::tally::Tally;
 
@@ -41,36 +38,16 @@ impl Run {
     }
 }
 
-/// What the program has for its standard input.
-pub enum Input<'a> {
-    Nothing,
-    Log(&'a [u8], Feed),
-    Open(File),
-}
-
-/// A folder of temporary files, which goes with it.
-pub struct Folder(pub PathBuf);
-
-impl Drop for Folder {
-    fn drop(&mut self) {
-        let _ = fs::remove_dir_all(&self.0);
-    }
-}
-
 pub struct Runs {
-    program: Program,
-    pub folder: Folder,
+    pub runner: Runner,
     pub rng: Rng,
     pub tally: Tally,
 }
 
 /// Runs the program over all logs of a seed.
 pub fn against(path: &str, seed: u64) -> Result<Tally, String> {
-    let folder = std::env::temp_dir().join(format!("moved logs {}", std::process::id()));
-    fs::create_dir(&folder).map_err(|error| format!("{}: {error}", folder.display()))?;
-    let folder = Folder(folder);
-    let mut runs =
-        Runs { program: Program::new(path, &[]), folder, rng: Rng::new(seed), tally: Tally::of_moves() };
+    let runner = Runner::new(path, "moved logs")?;
+    let mut runs = Runs { runner, rng: Rng::new(seed), tally: Tally::of_moves() };
     let each = each_move::logs(&mut runs.rng);
     for number in 0..LOGS {
         let log = each.get(number).cloned().unwrap_or_else(|| runs.some_log());
@@ -143,88 +120,11 @@ impl Runs {
 
     pub fn from_input(&self, log: &[u8], way: Way, feed: Feed) -> Result<(), String> {
         let expected = mover::run(&[way.word()], log);
-        self.expect(&[way.word()], Input::Log(log, feed), log, &expected)
+        self.runner.expect(&[way.word()], Input::Log(log, feed), log, &expected)
     }
 
     pub fn by_name(&self, log: &[u8], way: Way, input: Input) -> Result<(), String> {
-        let name = self.file("a log", log)?;
-        self.expect(&[way.word(), &name], input, log, &mover::moved(log, way))
+        let name = self.runner.file("a log", log)?;
+        self.runner.expect(&[way.word(), &name], input, log, &mover::moved(log, way))
     }
-
-    /// A file in the folder with such contents; its name.
-    pub fn file(&self, name: &str, log: &[u8]) -> Result<String, String> {
-        let path = self.folder.0.join(name);
-        fs::write(&path, log).map_err(|error| format!("{}: {error}", path.display()))?;
-        Ok(path.to_string_lossy().into_owned())
-    }
-
-    /// The program does what is expected with such words and standard input; `log` is told where not.
-    pub fn expect(&self, words: &[&str], input: Input, log: &[u8], expected: &Ended) -> Result<(), String> {
-        self.expect_into(Stdio::piped(), words, input, log, expected)
-    }
-
-    pub fn expect_into(
-        &self,
-        output: Stdio,
-        words: &[&str],
-        input: Input,
-        log: &[u8],
-        expected: &Ended,
-    ) -> Result<(), String> {
-        let told = |what: String| format!("words {words:?}\nlog {}\n{what}", shown(log));
-        let ended = self.ended(output, words, input).map_err(told)?;
-        differs(expected, &ended).map_or(Ok(()), |what| Err(told(what)))
-    }
-
-    /// The same with no input, whatever the exit status.
-    pub fn expect_but_for_status(&self, words: &[&str], expected: &Ended) -> Result<(), String> {
-        let ended = self.ended(Stdio::piped(), words, Input::Nothing)?;
-        let expected = Ended { status: ended.status, ..expected.clone() };
-        differs(&expected, &ended).map_or(Ok(()), |what| Err(format!("words {words:?}\n{what}")))
-    }
-
-    fn ended(&self, output: Stdio, words: &[&str], input: Input) -> Result<Ended, String> {
-        let mut command = self.program.command(words);
-        command.stdout(output).stderr(Stdio::piped());
-        let (stdin, fed, feed) = match input {
-            Input::Nothing => (Stdio::null(), [].as_slice(), Feed::Whole),
-            Input::Log(log, feed) => (Stdio::piped(), log, feed),
-            Input::Open(file) => (Stdio::from(file), [].as_slice(), Feed::Whole),
-        };
-        command.stdin(stdin);
-        self.program.run(command, fed, feed)
-    }
-}
-
-/// A log in hex as far as a line holds it.
-fn shown(log: &[u8]) -> String {
-    const MOST: usize = 4_096;
-    match log.get(..MOST) {
-        Some(front) => format!("{}.. ({} octets)", hex(front), log.len()),
-        None => hex(log),
-    }
-}
-
-/// What of the three is not as expected, with the place of the first octet that differs.
-pub fn differs(expected: &Ended, ended: &Ended) -> Option<String> {
-    let mut lines = Vec::new();
-    if expected.status != ended.status {
-        lines.push(format!("exit status {} expected, not {}", expected.status, ended.status));
-    }
-    if expected.errors != ended.errors {
-        let [expected, errors] = [expected, ended].map(|ended| String::from_utf8_lossy(&ended.errors));
-        lines.push(format!("standard error {expected:?} expected, not {errors:?}"));
-    }
-    let (a, b) = (&expected.output, &ended.output);
-    if a != b {
-        let place = a.iter().zip(b).take_while(|(a, b)| a == b).count();
-        let [due, got] =
-            [a, b].map(|octets| octets.get(place).map_or("no octet".into(), |o| format!("{o:02x}")));
-        lines.push(format!(
-            "{} octets expected, {} came; at {place} {due} expected, not {got}",
-            a.len(),
-            b.len()
-        ));
-    }
-    (!lines.is_empty()).then(|| lines.join("\n"))
 }

@@ -3,41 +3,16 @@
 use std::fs::{File, OpenOptions};
 use std::process::Stdio;
 
-use crate::board::Reference;
 use crate::cycle;
-use crate::mover::{self, Ended, CANNOT_READ, CANNOT_WRITE, LARGEST, TOO_LARGE, USAGE};
-use crate::moves::{Input, Runs};
-use crate::moving::{moved_log, records, Way};
+use crate::ended::Ended;
+use crate::exact::{exactly, last_bad};
+use crate::mover::{self, CANNOT_READ, CANNOT_WRITE, LARGEST, TOO_LARGE, USAGE};
+use crate::moves::Runs;
+use crate::moving::{moved_log, Way};
 use crate::opens::Opens;
 use crate::program::Feed;
-use crate::records as make;
+use crate::runner::Input;
 use crate::seen_run::InputSeen;
-
-/// The first records of a log and fitting ones behind them, so that it has so many octets.
-fn exactly(log: &[u8], length: usize) -> Vec<u8> {
-    let mut exact = log[..2].to_vec();
-    for record in records(&log[2..]) {
-        // Room for at least three records of five octets and one of four, which fill any gap.
-        if exact.len() + record.len() + 19 > length {
-            break;
-        }
-        exact.extend(record);
-    }
-    while (length - exact.len()) % 4 != 0 {
-        exact.extend(make::release(1));
-    }
-    while exact.len() < length {
-        exact.extend(make::progress(Reference(1), 4));
-    }
-    exact
-}
-
-/// The log with the last octet of its last record, a call state, out of range.
-fn last_bad(log: &[u8]) -> Vec<u8> {
-    let mut log = log.to_vec();
-    log.extend(make::progress(Reference(1), 9));
-    log
-}
 
 impl Runs {
     /// Logs about as large as standard input may give, and far larger ones.
@@ -49,7 +24,7 @@ impl Runs {
             self.by_name(log, way, Input::Nothing)?;
             self.by_name(&last_bad(log), way, Input::Nothing)?;
             let too_large = Ended::with_error(TOO_LARGE, 1);
-            self.expect(&[way.word()], Input::Log(log, Feed::Whole), log, &too_large)?;
+            self.runner.expect(&[way.word()], Input::Log(log, Feed::Whole), log, &too_large)?;
             self.tally.add_each([InputSeen::FileLarger, InputSeen::FileLargerRefused, InputSeen::Larger]);
         }
         Ok(())
@@ -80,27 +55,27 @@ impl Runs {
         let [cannot_read, cannot_write] = [CANNOT_READ, CANNOT_WRITE].map(|line| Ended::with_error(line, 1));
         let (small, other) = (exactly(&[1, 1], 50), exactly(&[0, 3], 40));
         let long = cycle::log(&mut self.rng, (2, 3), Opens::Moved);
-        let folder = self.folder.0.to_string_lossy().into_owned();
-        let none = self.folder.0.join("none").to_string_lossy().into_owned();
+        let folder = self.runner.folder.0.to_string_lossy().into_owned();
+        let none = self.runner.folder.0.join("none").to_string_lossy().into_owned();
         for way in Way::BOTH {
             let word = way.word();
             self.by_name(&small, way, Input::Log(&other, Feed::Whole))?;
             for name in [&none, &folder] {
-                self.expect(&[word, name], Input::Log(&other, Feed::Whole), &[], &cannot_read)?;
+                self.runner.expect(&[word, name], Input::Log(&other, Feed::Whole), &[], &cannot_read)?;
             }
             let directory = Input::Open(File::open(&folder).map_err(trouble)?);
-            self.expect(&[word], directory, &[], &cannot_read)?;
+            self.runner.expect(&[word], directory, &[], &cannot_read)?;
             let log = Input::Log(&small, Feed::Whole);
-            self.expect_into(full().map_err(trouble)?, &[word], log, &small, &cannot_write)?;
+            self.runner.expect_into(full().map_err(trouble)?, &[word], log, &small, &cannot_write)?;
             for log in [&small, &long] {
-                let name = self.file("written nowhere", log)?;
+                let name = self.runner.file("written nowhere", log)?;
                 let output = full().map_err(trouble)?;
-                self.expect_into(output, &[word, &name], Input::Nothing, log, &cannot_write)?;
+                self.runner.expect_into(output, &[word, &name], Input::Nothing, log, &cannot_write)?;
             }
             let refused = last_bad(&small);
             let log = Input::Log(&refused, Feed::Whole);
             let expected = mover::moved(&refused, way);
-            self.expect_into(full().map_err(trouble)?, &[word], log, &refused, &expected)?;
+            self.runner.expect_into(full().map_err(trouble)?, &[word], log, &refused, &expected)?;
         }
         use InputSeen::*;
         self.tally.add_each([FileNotInput, NoFile, Directory, InputDirectory]);
@@ -111,7 +86,7 @@ impl Runs {
     /// Words that there are not. The exit status of `--help` is not compared.
     pub fn words(&mut self) -> Result<(), String> {
         let log = exactly(&[1, 1], 50);
-        let name = self.file("a log", &log)?;
+        let name = self.runner.file("a log", &log)?;
         let wrong: [(InputSeen, &[&str]); 8] = [
             (InputSeen::NoWord, &[]),
             (InputSeen::OtherWord, &["both"]),
@@ -124,11 +99,11 @@ impl Runs {
         ];
         for (seen, words) in wrong {
             let log = Input::Log(&log, Feed::Whole);
-            self.expect(words, log, &[], &Ended::with_error(USAGE, 2))?;
+            self.runner.expect(words, log, &[], &Ended::with_error(USAGE, 2))?;
             self.tally.add(seen);
         }
         let help = Ended { output: USAGE.as_bytes().to_vec(), ..Ended::default() };
-        self.expect_but_for_status(&["--help"], &help)?;
+        self.runner.expect_but_for_status(&["--help"], &help)?;
         self.tally.add(InputSeen::Help);
         Ok(())
     }

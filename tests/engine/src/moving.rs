@@ -41,8 +41,8 @@ impl Way {
     }
 }
 
-/// Why a log is not moved: what is returned, and the number of the first bad record from 1, 0 for
-/// the options.
+/// Why a log is not moved, or not packed: what is returned, and the number of the record from 1, or 0
+/// where it is none.
 #[derive(Clone, Copy, PartialEq, Eq, Debug)]
 pub struct Refusal {
     pub returned: u8,

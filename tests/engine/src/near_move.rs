@@ -166,7 +166,7 @@ fn unknown(rng: &mut Rng) -> Vec<u8> {
     octets
 }
 
-fn spoil_options(rng: &mut Rng, log: &mut Vec<u8>) {
+pub fn spoil_options(rng: &mut Rng, log: &mut Vec<u8>) {
     match rng.below(5) {
         0 => log[0] = rng.pick(&[3, 3, 255, 4, 128]),
         1 => log[..2].copy_from_slice(&[rng.below(3) as u8, rng.pick(&[4, 5, 255])]),

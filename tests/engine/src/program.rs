@@ -6,7 +6,7 @@ use std::sync::{Arc, Mutex};
 use std::thread;
 use std::time::{Duration, Instant};
 
-use crate::mover::Ended;
+use crate::ended::Ended;
 
 /// How a log is fed.
 #[derive(Clone, Copy)]

@@ -3,10 +3,13 @@
 use std::ops::Range;
 
 pub use crate::seen::Seen;
+use crate::seen_archive::{ArchiveSeen, LogSeen, RefusedSeen};
+use crate::seen_archive_run::{ArchiveInputSeen, ArchiveRunSeen, ArchiveWordSeen};
 use crate::seen_carrier::CarrierSeen;
 use crate::seen_explicit::{AlikeSeen, ExecuteSeen};
 use crate::seen_history::HistorySeen;
 use crate::seen_inform::{InformSeen, NumberSeen};
+use crate::seen_layout::LayoutSeen;
 use crate::seen_leg::LegSeen;
 use crate::seen_move::{MoveSeen, ToNewSeen, ToOldSeen};
 use crate::seen_rules::{AmericanSeen, AnswerSeen, RuleSeen, TransferSeen};
@@ -56,7 +59,7 @@ pub enum Alone {
 }
 
 /// The lists in their order, each with what its texts begin with.
-const LISTS: [(&str, &[&str]); 50] = [
+const LISTS: [(&str, &[&str]); 63] = [
     ("", Seen::TEXTS),
     ("", LegSeen::TEXTS),
     ("", InformSeen::TEXTS),
@@ -107,6 +110,19 @@ const LISTS: [(&str, &[&str]); 50] = [
     ("new by a file's name, ", RunSeen::TEXTS),
     ("old by a file's name, ", RunSeen::TEXTS),
     ("", InputSeen::TEXTS),
+    ("packed: ", LayoutSeen::TEXTS),
+    ("unpacked: ", LayoutSeen::TEXTS),
+    ("pack: ", RefusedSeen::TEXTS),
+    ("unpack: ", RefusedSeen::TEXTS),
+    ("pack: ", LogSeen::TEXTS),
+    ("unpack: ", ArchiveSeen::TEXTS),
+    ("pack from standard input, ", ArchiveRunSeen::TEXTS),
+    ("unpack from standard input, ", ArchiveRunSeen::TEXTS),
+    ("pack by a file's name, ", ArchiveRunSeen::TEXTS),
+    ("unpack by a file's name, ", ArchiveRunSeen::TEXTS),
+    ("pack, ", ArchiveInputSeen::TEXTS),
+    ("unpack, ", ArchiveInputSeen::TEXTS),
+    ("", ArchiveWordSeen::TEXTS),
 ];
 
 /// The occurrences of so many lists.
@@ -130,9 +146,10 @@ pub struct Tally {
 }
 
 /// The lists of moved logs, counted where logs are played and where the program that moves them is
-/// run; and those of its runs.
+/// run; those of its runs; and those of archives and of the program that makes them.
 const MOVES: usize = 41;
 const RUNS: usize = 45;
+const ARCHIVES: usize = 50;
 
 impl Default for Tally {
     fn default() -> Tally {
@@ -143,7 +160,12 @@ impl Default for Tally {
 impl Tally {
     /// For runs of the program that moves logs.
     pub fn of_moves() -> Tally {
-        Tally { lists: MOVES..LISTS.len(), ..Tally::default() }
+        Tally { lists: MOVES..ARCHIVES, ..Tally::default() }
+    }
+
+    /// For runs of the program that packs and unpacks logs.
+    pub fn of_archives() -> Tally {
+        Tally { lists: ARCHIVES..LISTS.len(), ..Tally::default() }
     }
 
     pub fn add(&mut self, seen: impl Occurrence) {

@@ -2,8 +2,8 @@
 
 use std::io::{self, Read};
 
-use engine::mover::{run, Ended, LARGEST};
-use engine::moves::differs;
+use engine::ended::{differs, Ended};
+use engine::mover::{run, LARGEST};
 
 const USAGE: &str = "usage: ect_move new|old [FILE]\n";
 const TOO_LARGE: &str = "ect_move: the log is larger than 65536 octets: name its file\n";

@@ -1,0 +1,2 @@
+-- What the program needs to know of regrouping.
+pub mod Bounds
