@@ -21,12 +21,12 @@ use filling::Filling;
 // and each place fits 16 bits.
 type Starts = ArrayVec<u16, 16_384>;
 
-fn starts_of(kind: u8, log: &[u8]) -> Starts
+fn find_starts(kind: u8, log: &[u8], starts: &mut Starts)
     requires short { length log.now ≤ 65534 }
     requires formed { all well_formed (records log.now) ≡ true }
-    ensures { map (body_at kind log.now) result.items ≡ bodies_of kind (records log.now) }
+    ensures { map (body_at kind log.now) starts.new.items ≡ bodies_of kind (records log.now) }
 {
-    let mut starts = Starts::new();
+    starts.clear();
     let mut rest = log;
     while let Some((record, later)) = split_record(rest) {
         if record[0] == kind {
@@ -34,7 +34,6 @@ fn starts_of(kind: u8, log: &[u8]) -> Starts
         }
         rest = later;
     }
-    starts
 }
 
 // Puts the octet at one place of each body.
@@ -47,13 +46,14 @@ fn put_column(place: usize, log: &[u8], starts: &[u16], out: &mut Filling)
     }
 }
 
-// Puts the bodies of a kind. Where they begin is found once, and not for each column.
-fn put_bodies(kind: u8, log: &[u8], out: &mut Filling)
+// Puts the bodies of a kind. Where they begin is found once, and not for each column, in a list that is lent, whatever it
+// holds, since an empty one costs as much as a full one to make.
+fn put_bodies(kind: u8, log: &[u8], starts: &mut Starts, out: &mut Filling)
     requires short { length log.now ≤ 65534 }
     requires formed { all well_formed (records log.now) ≡ true }
     ensures { PutGivenRoom (columns 0 (body_length kind) (bodies_of kind (records log.now))) out.old out.new }
 {
-    let starts = starts_of(kind, log);
+    find_starts(kind, log, starts);
     for place in 0..record_length(kind) - 1 {
         put_column(place, log, starts.as_slice(), out);
     }
@@ -65,8 +65,9 @@ fn put_grouped(kinds: &[u8], log: &[u8], out: &mut Filling)
     ensures { PutGivenRoom
         (flat_map (λ kind. columns 0 (body_length kind) (bodies_of kind (records log.now))) kinds.now) out.old out.new }
 {
+    let mut starts = Starts::new();
     for kind in kinds {
-        put_bodies(*kind, log, out);
+        put_bodies(*kind, log, &mut starts, out);
     }
 }
 

@@ -5,13 +5,12 @@ use crate::archive::{Work, LARGEST_LOG};
 use crate::archived::{self, without_bad};
 use crate::archiver;
 use crate::compare::hex;
+use crate::ended::Ended;
 use crate::exact::{exactly, long};
-use crate::logs::steered;
 use crate::moving::{records, Refusal};
-use crate::near_move;
 use crate::program::Feed;
-use crate::rng::Rng;
-use crate::runner::{Input, Runner};
+use crate::runner::Input;
+use crate::runs::{Run, Runs, Task};
 use crate::seen_archive_run::{ArchiveInputSeen, ArchiveRunSeen};
 use crate::tally::Tally;
 use crate::{each_archive, each_move, near_archive};
@@ -20,36 +19,29 @@ const LOGS: usize = 20_000;
 /// What is fed in small parts takes long, and is little.
 const IN_PARTS: usize = 30;
 
-/// The word, and where the octets come from.
-#[derive(Clone, Copy, PartialEq, Eq, Debug)]
-pub enum Run {
-    PackInput,
-    UnpackInput,
-    PackFile,
-    UnpackFile,
-}
+impl Task for Work {
+    const FILE: &'static str = "octets";
 
-impl Run {
-    pub fn of(work: Work, by_name: bool) -> Run {
-        match (work, by_name) {
-            (Work::Pack, false) => Run::PackInput,
-            (Work::Unpack, false) => Run::UnpackInput,
-            (Work::Pack, true) => Run::PackFile,
-            (Work::Unpack, true) => Run::UnpackFile,
-        }
+    fn word(self) -> &'static str {
+        Work::word(self)
     }
-}
 
-pub struct Runs {
-    pub runner: Runner,
-    pub rng: Rng,
-    pub tally: Tally,
+    fn second(self) -> bool {
+        self == Work::Unpack
+    }
+
+    fn from_input(self, octets: &[u8]) -> Ended {
+        archiver::run(&[self.word()], octets)
+    }
+
+    fn done(self, octets: &[u8]) -> Ended {
+        archiver::done(octets, self)
+    }
 }
 
 /// Runs the program over all logs of a seed and their archives.
 pub fn against(path: &str, seed: u64) -> Result<Tally, String> {
-    let runner = Runner::new(path, "archives of logs")?;
-    let mut runs = Runs { runner, rng: Rng::new(seed), tally: Tally::of_archives() };
+    let mut runs = Runs::<Work>::new(path, "archives of logs", seed, Tally::of_archives())?;
     let rng = &mut runs.rng;
     let (logs, archives) =
         ([each_archive::logs(rng), each_move::logs(rng)].concat(), each_archive::archives(rng));
@@ -64,25 +56,17 @@ pub fn against(path: &str, seed: u64) -> Result<Tally, String> {
         };
         runs.all_ways(&log, good.as_deref(), &damaged, number)?;
     }
-    runs.large()?;
-    runs.failures()?;
-    runs.words()?;
-    runs.tally.all_met()?;
-    Ok(runs.tally)
+    runs.odd()?;
+    runs.finished()
 }
 
-impl Runs {
+impl Runs<Work> {
     fn some_log(&mut self) -> Vec<u8> {
         if self.rng.percent(3) {
             let length = self.rng.within(4_096, LARGEST_LOG);
             return exactly(&long(&mut self.rng, length), length);
         }
-        let log = steered(&mut self.rng);
-        if self.rng.percent(50) {
-            log
-        } else {
-            near_move::log(&mut self.rng, &log)
-        }
+        self.played_or_near(50)
     }
 
     /// The log packed, where it has bad records without them too, the archive unpacked, and a damaged one.
@@ -154,15 +138,5 @@ impl Runs {
         };
         tally.add_each(figures.map(|seen| (run, seen)));
         Ok(refusal)
-    }
-
-    pub fn from_input(&self, octets: &[u8], work: Work, feed: Feed) -> Result<(), String> {
-        let expected = archiver::run(&[work.word()], octets);
-        self.runner.expect(&[work.word()], Input::Log(octets, feed), octets, &expected)
-    }
-
-    pub fn by_name(&self, octets: &[u8], work: Work, input: Input) -> Result<(), String> {
-        let name = self.runner.file("octets", octets)?;
-        self.runner.expect(&[work.word(), &name], input, octets, &archiver::done(octets, work))
     }
 }

@@ -6,7 +6,6 @@ use std::process::Stdio;
 
 use crate::archive::{packed, regrouped, Work, LARGEST_LOG};
 use crate::archiver::{self, CANNOT_READ, CANNOT_WRITE, USAGE};
-use crate::archives::{Run, Runs};
 use crate::cycle;
 use crate::ended::Ended;
 use crate::exact::{exactly, last_bad, long};
@@ -14,6 +13,7 @@ use crate::moving::records;
 use crate::opens::Opens;
 use crate::program::Feed;
 use crate::runner::Input;
+use crate::runs::{Run, Runs};
 use crate::seen_archive_run::{ArchiveInputSeen, ArchiveRunSeen, ArchiveWordSeen};
 
 /// The archive of a log of any size and fields.
@@ -29,9 +29,16 @@ fn with(octets: &[u8], place: usize, other: &[u8]) -> Vec<u8> {
     octets
 }
 
-impl Runs {
+impl Runs<Work> {
+    /// All of these runs.
+    pub fn odd(&mut self) -> Result<(), String> {
+        self.large()?;
+        self.failures()?;
+        self.words()
+    }
+
     /// Octets about as many as there may be, and far more.
-    pub fn large(&mut self) -> Result<(), String> {
+    fn large(&mut self) -> Result<(), String> {
         let far_larger = cycle::log(&mut self.rng, (1, 1), Opens::Any);
         let mixed = long(&mut self.rng, 2 * LARGEST_LOG);
         for by_name in [false, true] {
@@ -103,7 +110,7 @@ impl Runs {
     }
 
     /// Where the program cannot read or cannot write.
-    pub fn failures(&mut self) -> Result<(), String> {
+    fn failures(&mut self) -> Result<(), String> {
         use ArchiveInputSeen::*;
         let full = || OpenOptions::new().write(true).open("/dev/full").map(Stdio::from);
         let trouble = |error: std::io::Error| error.to_string();
@@ -143,7 +150,7 @@ impl Runs {
     }
 
     /// Words that there are not, and the one for help.
-    pub fn words(&mut self) -> Result<(), String> {
+    fn words(&mut self) -> Result<(), String> {
         let log = exactly(&[1, 1], 50);
         let archive = packed(&log).map_err(|refusal| format!("small log: {refusal:?}"))?;
         for (work, octets) in [(Work::Pack, &log), (Work::Unpack, &archive)] {

@@ -3,14 +3,13 @@
 
 use crate::compare::hex;
 use crate::each_move;
-use crate::logs::steered;
+use crate::ended::Ended;
 use crate::moved;
 use crate::mover;
 use crate::moving::{judge, records, Way};
-use crate::near_move;
 use crate::program::Feed;
-use crate::rng::Rng;
-use crate::runner::{Input, Runner};
+use crate::runner::Input;
+use crate::runs::{Run, Runs, Task};
 use crate::seen_run::{InputSeen, RunSeen};
 use crate::tally::Tally;
 
@@ -18,58 +17,39 @@ const LOGS: usize = 2_000;
 /// Logs in small parts take long, and are few.
 const IN_PARTS: usize = 60;
 
-/// The word, and where the log comes from.
-#[derive(Clone, Copy, PartialEq, Eq, Debug)]
-pub enum Run {
-    NewInput,
-    OldInput,
-    NewFile,
-    OldFile,
-}
+impl Task for Way {
+    const FILE: &'static str = "a log";
 
-impl Run {
-    fn of(way: Way, by_name: bool) -> Run {
-        match (way, by_name) {
-            (Way::ToNew, false) => Run::NewInput,
-            (Way::ToOld, false) => Run::OldInput,
-            (Way::ToNew, true) => Run::NewFile,
-            (Way::ToOld, true) => Run::OldFile,
-        }
+    fn word(self) -> &'static str {
+        Way::word(self)
     }
-}
 
-pub struct Runs {
-    pub runner: Runner,
-    pub rng: Rng,
-    pub tally: Tally,
+    fn second(self) -> bool {
+        self == Way::ToOld
+    }
+
+    fn from_input(self, log: &[u8]) -> Ended {
+        mover::run(&[self.word()], log)
+    }
+
+    fn done(self, log: &[u8]) -> Ended {
+        mover::moved(log, self)
+    }
 }
 
 /// Runs the program over all logs of a seed.
 pub fn against(path: &str, seed: u64) -> Result<Tally, String> {
-    let runner = Runner::new(path, "moved logs")?;
-    let mut runs = Runs { runner, rng: Rng::new(seed), tally: Tally::of_moves() };
+    let mut runs = Runs::<Way>::new(path, "moved logs", seed, Tally::of_moves())?;
     let each = each_move::logs(&mut runs.rng);
     for number in 0..LOGS {
-        let log = each.get(number).cloned().unwrap_or_else(|| runs.some_log());
+        let log = each.get(number).cloned().unwrap_or_else(|| runs.played_or_near(35));
         runs.both_ways(&log, number)?;
     }
-    runs.large()?;
-    runs.failures()?;
-    runs.words()?;
-    runs.tally.all_met()?;
-    Ok(runs.tally)
+    runs.odd()?;
+    runs.finished()
 }
 
-impl Runs {
-    fn some_log(&mut self) -> Vec<u8> {
-        let log = steered(&mut self.rng);
-        if self.rng.percent(35) {
-            log
-        } else {
-            near_move::log(&mut self.rng, &log)
-        }
-    }
-
+impl Runs<Way> {
     fn both_ways(&mut self, log: &[u8], number: usize) -> Result<(), String> {
         let fault = |what| format!("log {}\nthe engine is at fault\n{what}", hex(log));
         moved::watch(log, &mut self.rng, &mut self.tally).map_err(fault)?;
@@ -116,15 +96,5 @@ impl Runs {
         tally.add_if(record == 1, (run, RunSeen::First));
         tally.add_if((10..100).contains(&record), (run, RunSeen::Figures2));
         tally.add_if((100..1000).contains(&record), (run, RunSeen::Figures3));
-    }
-
-    pub fn from_input(&self, log: &[u8], way: Way, feed: Feed) -> Result<(), String> {
-        let expected = mover::run(&[way.word()], log);
-        self.runner.expect(&[way.word()], Input::Log(log, feed), log, &expected)
-    }
-
-    pub fn by_name(&self, log: &[u8], way: Way, input: Input) -> Result<(), String> {
-        let name = self.runner.file("a log", log)?;
-        self.runner.expect(&[way.word(), &name], input, log, &mover::moved(log, way))
     }
 }

@@ -7,16 +7,23 @@ use crate::cycle;
 use crate::ended::Ended;
 use crate::exact::{exactly, last_bad};
 use crate::mover::{self, CANNOT_READ, CANNOT_WRITE, LARGEST, TOO_LARGE, USAGE};
-use crate::moves::Runs;
 use crate::moving::{moved_log, Way};
 use crate::opens::Opens;
 use crate::program::Feed;
 use crate::runner::Input;
+use crate::runs::Runs;
 use crate::seen_run::InputSeen;
 
-impl Runs {
+impl Runs<Way> {
+    /// All of these runs.
+    pub fn odd(&mut self) -> Result<(), String> {
+        self.large()?;
+        self.failures()?;
+        self.words()
+    }
+
     /// Logs about as large as standard input may give, and far larger ones.
-    pub fn large(&mut self) -> Result<(), String> {
+    fn large(&mut self) -> Result<(), String> {
         let old = cycle::log(&mut self.rng, (1, 1), Opens::Old);
         let new = moved_log(&old, Way::ToNew).map_err(|refusal| format!("long log: {refusal:?}"))?;
         for (way, log) in [(Way::ToNew, &old), (Way::ToOld, &new)] {
@@ -49,7 +56,7 @@ impl Runs {
     }
 
     /// Where the program cannot read or cannot write.
-    pub fn failures(&mut self) -> Result<(), String> {
+    fn failures(&mut self) -> Result<(), String> {
         let full = || OpenOptions::new().write(true).open("/dev/full").map(Stdio::from);
         let trouble = |error: std::io::Error| error.to_string();
         let [cannot_read, cannot_write] = [CANNOT_READ, CANNOT_WRITE].map(|line| Ended::with_error(line, 1));
@@ -84,7 +91,7 @@ impl Runs {
     }
 
     /// Words that there are not. The exit status of `--help` is not compared.
-    pub fn words(&mut self) -> Result<(), String> {
+    fn words(&mut self) -> Result<(), String> {
         let log = exactly(&[1, 1], 50);
         let name = self.runner.file("a log", &log)?;
         let wrong: [(InputSeen, &[&str]); 8] = [

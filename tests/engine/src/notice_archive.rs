@@ -8,6 +8,7 @@ use crate::moving::records;
 use crate::play::start;
 use crate::reply::BUFFER;
 use crate::seen_layout::LayoutSeen;
+use crate::seen_options::by_options;
 use crate::tally::Tally;
 
 /// Tallies a log and the archive that is made of it, or that it is made of.
@@ -15,12 +16,7 @@ pub fn layout(log: &[u8], archive: &[u8], work: Work, tally: &mut Tally) {
     use LayoutSeen::*;
     let Some((board, rest)) = start(log) else { return };
     let list: Vec<&[u8]> = records(rest).collect();
-    let options = [
-        [Options00, Options01, Options02, Options03],
-        [Options10, Options11, Options12, Options13],
-        [Options20, Options21, Options22, Options23],
-    ];
-    tally.add((work, options[log[0] as usize][log[1] as usize]));
+    tally.add((work, by_options!(LayoutSeen)[log[0] as usize][log[1] as usize]));
     tally.add((work, size(log.len())));
     tally.add(match list.len() {
         0 => (work, Alone),

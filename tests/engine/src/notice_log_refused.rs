@@ -4,10 +4,11 @@ use crate::archive::{Work, LARGEST_LOG};
 use crate::archive_faults::{bad_options, first_bad};
 use crate::archive_places::body;
 use crate::event::Event;
-use crate::fields::call;
 use crate::moving::{records, Refusal};
+use crate::notice_cut;
 use crate::notice_refusal::{field, numbers, options_or_size, unknown};
 use crate::seen_archive::LogSeen;
+use crate::seen_bad::by_cut;
 use crate::tally::Tally;
 
 pub fn notice(log: &[u8], refusal: Refusal, tally: &mut Tally) {
@@ -26,7 +27,11 @@ pub fn notice(log: &[u8], refusal: Refusal, tally: &mut Tally) {
     numbers(refusal.record, list.len(), Work::Pack, tally);
     let behind = &list[place + 1..];
     match refusal.returned {
-        3 => cut(list[place], tally),
+        3 => {
+            let record = list[place];
+            tally.add(notice_cut::place(record, body(record[0]), by_cut!(LogSeen)));
+            tally.add_if(notice_cut::wrong_field(record), CutField);
+        }
         4 => {
             let end = 2 + list.iter().map(|record| record.len()).sum::<usize>();
             unknown(list[place][0], Work::Pack, tally);
@@ -44,29 +49,4 @@ pub fn notice(log: &[u8], refusal: Refusal, tally: &mut Tally) {
     }
     tally.add_if(refusal.returned == 3 && log.len() == 3, Three3);
     tally.add_if(refusal.returned == 4 && log.len() == 3, Three4);
-}
-
-fn cut(record: &[u8], tally: &mut Tally) {
-    use LogSeen::*;
-    const CUTS: [[LogSeen; 3]; 9] = [
-        [Cut1Kind, Cut1Last, Cut1Else],
-        [Cut2Kind, Cut2Last, Cut2Else],
-        [Cut3Kind, Cut3Last, Cut3Else],
-        [Cut4Kind, Cut4Last, Cut4Else],
-        [Cut5Kind, Cut5Last, Cut5Else],
-        [Cut6Kind, Cut6Last, Cut6Else],
-        [Cut7Kind, Cut7Last, Cut7Else],
-        [Cut8Kind, Cut8Last, Cut8Else],
-        [Cut9Kind, Cut9Last, Cut9Else],
-    ];
-    let kind = record[0];
-    let place = match record.len() {
-        1 => 0,
-        length if Some(length) == body(kind) => 1,
-        _ => 2,
-    };
-    tally.add(CUTS[usize::from(kind) - 1][place]);
-    let reference = !matches!(kind, 4 | 6 | 7) && record.len() > 2 && !call(record);
-    let party = matches!(kind, 1 | 9) && record.iter().skip(7).take(2).any(|&octet| octet > 1);
-    tally.add_if(reference || party, CutField);
 }

@@ -2,9 +2,12 @@
 
 use crate::event::{body_length, Answer, OPEN, OPEN_TYPED};
 use crate::moving::{bad, records, Way, TYPED};
+use crate::notice_cut;
 use crate::play::start;
 use crate::records::TYPE_AT;
+use crate::seen_bad::by_cut;
 use crate::seen_move::{MoveSeen, ToNewSeen, ToOldSeen};
+use crate::seen_options::by_options;
 use crate::tally::Tally;
 
 /// Tallies a log by its records and what they are bad by.
@@ -36,12 +39,7 @@ fn bad_options(log: &[u8], way: Way, tally: &mut Tally) {
 
 fn moved(log: &[u8], list: &[(&[u8], u8)], way: Way, tally: &mut Tally) {
     use MoveSeen::*;
-    let options = [
-        [Options00, Options01, Options02, Options03],
-        [Options10, Options11, Options12, Options13],
-        [Options20, Options21, Options22, Options23],
-    ];
-    tally.add((way, options[log[0] as usize][log[1] as usize]));
+    tally.add((way, by_options!(MoveSeen)[log[0] as usize][log[1] as usize]));
     let turned = |record: &[u8]| record[0] == way.turned();
     let count = list.iter().filter(|(record, _)| turned(record)).count();
     let other = list.iter().any(|(record, _)| record[0] == way.back().turned());
@@ -113,32 +111,13 @@ fn bad_back(record: &[u8]) -> u8 {
 }
 
 fn cut(record: &[u8], way: Way, tally: &mut Tally) {
-    use MoveSeen::*;
-    const CUTS: [[MoveSeen; 3]; 9] = [
-        [Cut1Kind, Cut1Last, Cut1Else],
-        [Cut2Kind, Cut2Last, Cut2Else],
-        [Cut3Kind, Cut3Last, Cut3Else],
-        [Cut4Kind, Cut4Last, Cut4Else],
-        [Cut5Kind, Cut5Last, Cut5Else],
-        [Cut6Kind, Cut6Last, Cut6Else],
-        [Cut7Kind, Cut7Last, Cut7Else],
-        [Cut8Kind, Cut8Last, Cut8Else],
-        [Cut9Kind, Cut9Last, Cut9Else],
-    ];
+    use MoveSeen::{CutField, CutType, CutTyped};
     let kind = record[0];
-    let where_cut = match record.len() {
-        1 => 0,
-        length if Some(length) == body_length(kind) => 1,
-        _ => 2,
-    };
-    tally.add((way, CUTS[kind as usize - 1][where_cut]));
+    tally.add((way, notice_cut::place(record, body_length(kind), by_cut!(MoveSeen))));
     let number_type = record.get(TYPE_AT).filter(|_| kind == OPEN_TYPED);
     tally.add_if(matches!(number_type, Some(1 | 2)), (way, CutTyped));
     tally.add_if(matches!(number_type, Some(3..)), (way, CutType));
-    let open = matches!(kind, OPEN | OPEN_TYPED);
-    let reference = !matches!(kind, 4 | 6 | 7) && matches!(record, [_, 0 | 0x80, 0, ..]);
-    let wrong = |place| open && matches!(record.get(place), Some(2..));
-    tally.add_if(reference || wrong(7) || wrong(8), (way, CutField));
+    tally.add_if(notice_cut::wrong_field(record), (way, CutField));
 }
 
 fn unknown(kind: u8, behind: &[u8], way: Way, tally: &mut Tally) {

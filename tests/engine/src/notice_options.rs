@@ -1,14 +1,12 @@
 //! What occurs at the front of a log: its two option octets.
 
 use crate::board::Board;
+use crate::seen_options::by_options;
 use crate::tally::{Seen, Tally};
 
 /// The options of a log that is played.
 pub fn good(board: &Board) -> Seen {
-    let unsubscribed = [Seen::Options00, Seen::Options01, Seen::Options02, Seen::Options03];
-    let subscribed = [Seen::Options10, Seen::Options11, Seen::Options12, Seen::Options13];
-    let explicit_only = [Seen::Options20, Seen::Options21, Seen::Options22, Seen::Options23];
-    [unsubscribed, subscribed, explicit_only][board.subscribed as usize][board.alerting as usize]
+    by_options!(Seen)[board.subscribed as usize][board.alerting as usize]
 }
 
 /// What no board for an old log is made with.

@@ -1,21 +1,11 @@
 //! What occurs in the logs, but for Leg facilities and Informs.
 
+use crate::seen_options::options;
 use crate::tally::{before, occurrences};
 
 occurrences! {
     Seen, behind before(0);
-    Options00 = "options 00 00",
-    Options01 = "options 00 01",
-    Options02 = "options 00 02",
-    Options03 = "options 00 03",
-    Options10 = "options 01 00",
-    Options11 = "options 01 01",
-    Options12 = "options 01 02",
-    Options13 = "options 01 03",
-    Options20 = "options 02 00",
-    Options21 = "options 02 01",
-    Options22 = "options 02 02",
-    Options23 = "options 02 03",
+    ..options(""),
     OptionsBad04 = "bad options: 00 04",
     OptionsBad14 = "bad options: 01 04",
     OptionsBad24 = "bad options: 02 04",

@@ -1,7 +1,7 @@
 //! What occurs where the program that packs and unpacks logs is run.
 
 use crate::archive::Work;
-use crate::archives::Run;
+use crate::runs::Run;
 use crate::tally::{before, occurrences};
 
 occurrences! {

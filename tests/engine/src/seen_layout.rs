@@ -2,22 +2,12 @@
 //! differ. "Several" are two or more.
 
 use crate::archive::Work;
+use crate::seen_options::options;
 use crate::tally::{before, occurrences};
 
 occurrences! {
     LayoutSeen, for each Work, behind before(50);
-    Options00 = "options 00 00",
-    Options01 = "options 00 01",
-    Options02 = "options 00 02",
-    Options03 = "options 00 03",
-    Options10 = "options 01 00",
-    Options11 = "options 01 01",
-    Options12 = "options 01 02",
-    Options13 = "options 01 03",
-    Options20 = "options 02 00",
-    Options21 = "options 02 01",
-    Options22 = "options 02 02",
-    Options23 = "options 02 03",
+    ..options(""),
     Alone = "options alone",
     Small = "log of at most 255 octets",
     Middle = "log of 256 to 4,095 octets",

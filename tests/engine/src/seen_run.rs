@@ -1,6 +1,6 @@
 //! What occurs where the program that moves logs is run.
 
-use crate::moves::Run;
+use crate::runs::Run;
 use crate::tally::{before, occurrences};
 
 occurrences! {

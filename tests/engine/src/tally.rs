@@ -18,9 +18,10 @@ use crate::seen_type::{AnswerTypeSeen, ConsoleSeen, InformTypeSeen, OpenSeen, Tr
 use crate::seen_verdict::{ApartSeen, IdleSeen, PairSeen};
 
 /// Declares a list of occurrences. Its places among all begin behind those of the lists before;
-/// where it is counted for each of several owners, those of the first owner come first.
+/// where it is counted for each of several owners, those of the first owner come first. Where two dots
+/// stand in front of a name, the macro of that name puts occurrences that several lists have.
 macro_rules! occurrences {
-    ($list:ident, for each $owner:ty, behind $before:expr; $($name:ident = $text:literal,)*) => {
+    ($list:ident, for each $owner:ty, behind $before:expr; $($name:ident = $text:expr,)*) => {
         #[derive(Clone, Copy, PartialEq, Eq, Debug)]
         pub enum $list { $($name),* }
 
@@ -33,6 +34,12 @@ macro_rules! occurrences {
                 $before + self.0 as usize * $list::TEXTS.len() + self.1 as usize
             }
         }
+    };
+    (
+        $list:ident, for each $owner:ty, behind $before:expr;
+        $($name:ident = $text:expr,)* ..$group:ident($($front:literal)?), $($names:tt)*
+    ) => {
+        $group! { [$list, for each $owner, behind $before; $($name = $text,)*] [$($front)?] [$($names)*] }
     };
     ($list:ident, behind $before:expr; $($names:tt)*) => {
         occurrences! { $list, for each $crate::tally::Alone, behind $before; $($names)* }

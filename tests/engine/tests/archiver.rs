@@ -1,16 +1,14 @@
 //! What the program that packs and unpacks logs writes and ends with.
 
-use std::io::{self, Read};
+mod common;
 
+use std::io;
+
+use common::ends::{ended, Broken};
 use engine::archive::{packed, LARGEST_ARCHIVE, LARGEST_LOG};
 use engine::archiver::run;
-use engine::ended::Ended;
 
 const USAGE: &str = "usage: ect_archive pack|unpack [FILE]\n";
-
-fn ended(output: &[u8], errors: &str, status: i32) -> Ended {
-    Ended { output: output.to_vec(), errors: errors.as_bytes().to_vec(), status }
-}
 
 #[test]
 fn packed_and_refused() {
@@ -55,14 +53,6 @@ fn as_large_as_may_be() {
             assert_eq!(run(&[word], larger.as_slice()), ended(&[], "refused 0\n", 5));
         }
         assert_eq!(run(&[word], io::repeat(1)), ended(&[], "refused 0\n", 5));
-    }
-}
-
-struct Broken;
-
-impl Read for Broken {
-    fn read(&mut self, _: &mut [u8]) -> io::Result<usize> {
-        Err(io::Error::other("broken"))
     }
 }
 

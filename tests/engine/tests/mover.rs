@@ -1,16 +1,15 @@
 //! What the program that moves logs writes and ends with; and that the comparison accepts no difference.
 
-use std::io::{self, Read};
+mod common;
 
-use engine::ended::{differs, Ended};
+use std::io;
+
+use common::ends::{ended, Broken};
+use engine::ended::differs;
 use engine::mover::{run, LARGEST};
 
 const USAGE: &str = "usage: ect_move new|old [FILE]\n";
 const TOO_LARGE: &str = "ect_move: the log is larger than 65536 octets: name its file\n";
-
-fn ended(output: &[u8], errors: &str, status: i32) -> Ended {
-    Ended { output: output.to_vec(), errors: errors.as_bytes().to_vec(), status }
-}
 
 #[test]
 fn moved_and_refused() {
@@ -43,14 +42,6 @@ fn as_large_as_standard_input_may_give() {
         let larger = [&log[..], &[0]].concat();
         assert_eq!(run(&[word], larger.as_slice()), ended(&[], TOO_LARGE, 1));
         assert_eq!(run(&[word], io::repeat(0)), ended(&[], TOO_LARGE, 1));
-    }
-}
-
-struct Broken;
-
-impl Read for Broken {
-    fn read(&mut self, _: &mut [u8]) -> io::Result<usize> {
-        Err(io::Error::other("broken"))
     }
 }
 

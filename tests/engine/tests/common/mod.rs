@@ -1,6 +1,8 @@
 //! Short ways to play events in the tests.
 #![allow(dead_code)]
 
+pub mod ends;
+
 use engine::board::{Aux, Board, Call, CallState, LinkId, Reference};
 use engine::event::event;
 use engine::notice::{watch, Moment};

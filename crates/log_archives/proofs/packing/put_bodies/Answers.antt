@@ -12,7 +12,7 @@ loop-place-preserved c =
     let rs = records c.args.log.now in
     let bodies = bodies_of c.args.kind rs in
     let h : l.place < body_length c.args.kind = omega arith in
-    let p = rw (c.as_slice.ensures.value, column_behind c.args.kind c.args.log.now c.starts_of-starts.result.items bodies c.starts_of-starts.ensures l.place h) at c.put_column.ensures in
+    let p = rw (c.as_slice.ensures.value, column_behind c.args.kind c.args.log.now c.find_starts.new.starts.items bodies c.find_starts.ensures l.place h) at c.put_column.ensures in
     λ f q. l.invariant f (column_put l.place (body_length c.args.kind) bodies h p q)
 
 pub put_column-requires : goal.put_column-requires
@@ -20,7 +20,7 @@ put_column-requires c =
     let rs = records c.args.log.now in
     let h : c.loop-place.place < body_length c.args.kind = omega arith in
     rw c.as_slice.ensures.value
-    (bodies_within c.args.kind c.args.log.now c.starts_of-starts.result.items (bodies_of c.args.kind rs) c.starts_of-starts.ensures c.loop-place.place h (bodies_long rs c.requires.formed c.args.kind))
+    (bodies_within c.args.kind c.args.log.now c.find_starts.new.starts.items (bodies_of c.args.kind rs) c.find_starts.ensures c.loop-place.place h (bodies_long rs c.requires.formed c.args.kind))
 
 pub returns : goal.returns
 returns c =

@@ -1,6 +1,6 @@
 use Rattle.std.proofs.Common.{length}
 use Rattle.log_archives.proofs.Starts.{Found}
-use Rattle.log_archives.proofs.packing.starts_of.Given as goal
+use Rattle.log_archives.proofs.packing.find_starts.Given as goal
 
 abbrev pub invariant-loop-record : goal.invariant-loop-record
 invariant-loop-record l = Found l.kind l.log l.rest l.starts.items

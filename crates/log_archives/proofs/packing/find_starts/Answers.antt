@@ -1,5 +1,5 @@
 use Rattle.log_archives.proofs.Starts.{one_found, other_kind, all_found}
-use Rattle.log_archives.proofs.packing.starts_of.Goals as goal
+use Rattle.log_archives.proofs.packing.find_starts.Goals as goal
 
 pub loop-record-preserved-then-record-kind : goal.loop-record-preserved-then-record-kind
 loop-record-preserved-then-record-kind c =
