@@ -1,7 +1,7 @@
 // Runs cases and prints a line for each: every refusal of `step`, an Inform, transfers on boards for old logs, one with
 // a subaddress passed on and one of a number with a type, on live boards one explicit only and one by American rules,
-// README's sample, invokes that are written and read back, integers that are padded or not, forms of subaddresses, and
-// all the short histories.
+// README's sample, invokes that are written and read back, integers that are padded or not, forms of subaddresses, all
+// the short histories, and screens that are lent, with names.
 #![tactic(auto)]
 
 use board::{Board, Direction, Options};
@@ -15,6 +15,7 @@ mod invoking;
 mod padding;
 mod records;
 mod sample;
+mod screen;
 mod show;
 mod subaddress;
 mod transfer;
@@ -139,5 +140,7 @@ fn main(rt: HostRuntime) -> io::Result<()> {
     padding::padded_or_not(&rt)?;
     subaddress::forms(&rt)?;
     histories::records(&rt)?;
-    histories::all(&rt)
+    histories::all(&rt)?;
+    screen::lent_screens(&rt, fresh)?;
+    screen::names(&rt)
 }

@@ -30,7 +30,7 @@ impl Task for Work {
         self == Work::Unpack
     }
 
-    fn from_input(self, octets: &[u8]) -> Ended {
+    fn on_input(self, octets: &[u8]) -> Ended {
         archiver::run(&[self.word()], octets)
     }
 
@@ -98,7 +98,7 @@ impl Runs<Work> {
         let refused = self.watched(octets, work, false)?.is_some();
         let seen = if refused { ArchiveInputSeen::PartsRefused } else { ArchiveInputSeen::Parts };
         self.tally.add((work, seen));
-        self.from_input(octets, work, Feed::Parts(if number % 3 == 0 { 7 } else { 1 }))
+        self.from_input(octets, work, Feed::Parts(if number.is_multiple_of(3) { 7 } else { 1 }))
     }
 
     pub fn run(&mut self, octets: &[u8], work: Work, by_name: bool) -> Result<(), String> {

@@ -17,7 +17,7 @@ pub fn exactly(log: &[u8], length: usize) -> Vec<u8> {
         }
         exact.extend(record);
     }
-    while (length - exact.len()) % 4 != 0 {
+    while !(length - exact.len()).is_multiple_of(4) {
         exact.extend(make::release(1));
     }
     while exact.len() < length {

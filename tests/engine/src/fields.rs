@@ -14,7 +14,7 @@ pub fn in_range(record: &[u8]) -> bool {
 
 /// Where the kind has a reference.
 pub fn call(record: &[u8]) -> bool {
-    record[1] % 0x80 != 0 || record[2] != 0
+    !record[1].is_multiple_of(0x80) || record[2] != 0
 }
 
 /// Direction and presentation.

@@ -6,6 +6,7 @@ use std::process::ExitCode;
 use std::time::Instant;
 
 use engine::archiver;
+use engine::attended;
 use engine::compare::{against, engine_alone};
 use engine::ended::Ended;
 use engine::logs::DEFAULT_SEED;
@@ -13,17 +14,19 @@ use engine::mover;
 use engine::play::{play, play_tested_once};
 use engine::rng::Rng;
 use engine::tally::Tally;
-use engine::{archives, load, moves, timing};
+use engine::{archives, load, moves, screens, timing};
 
 const USAGE: &str = "engine check PATH [SEED]   compare a player with the engine
 engine time PATH           speed of a player and of the engine
 engine moves PATH [SEED]   compare a mover of logs with the engine
 engine archives PATH [SEED]
                            compare a packer of logs with the engine
+engine screens PATH [SEED] compare a program of the attendant's console with the engine
 engine play [once]         play the log on standard input; once: the board is tested once
 engine move new|old [FILE] move the log on standard input, or in a file, to that form
 engine archive pack|unpack [FILE]
                            pack the log, or unpack the archive, on standard input or in a file
+engine console             play the script on standard input for the attendant's console
 engine load LEGS EVENTS    write a log that keeps about so many legs
 engine self [SEED]         play the logs through the engine alone";
 
@@ -35,11 +38,15 @@ fn main() -> ExitCode {
         ["self", seed @ ..] => run(seed, engine_alone),
         ["moves", path, seed @ ..] => run(seed, |seed| moves::against(path, seed)),
         ["archives", path, seed @ ..] => run(seed, |seed| archives::against(path, seed)),
+        ["screens", path, seed @ ..] => run(seed, |seed| screens::against(path, seed)),
         ["time", path] => time(path),
         ["play"] => play_input(play),
         ["move", words @ ..] => return ended(mover::run(words, io::stdin()), mover::CANNOT_WRITE),
         ["archive", words @ ..] => {
             return ended(archiver::run(words, io::stdin()), archiver::CANNOT_WRITE);
+        }
+        ["console", words @ ..] => {
+            return ended(attended::run(words, io::stdin()), attended::CANNOT_WRITE);
         }
         ["play", "once"] => play_input(play_tested_once),
         ["load", legs, events] => load(legs, events),

@@ -28,7 +28,7 @@ impl Task for Way {
         self == Way::ToOld
     }
 
-    fn from_input(self, log: &[u8]) -> Ended {
+    fn on_input(self, log: &[u8]) -> Ended {
         mover::run(&[self.word()], log)
     }
 
@@ -70,7 +70,7 @@ impl Runs<Way> {
         }
         let refused = judge(log, way).is_err();
         self.tally.add(if refused { InputSeen::PartsRefused } else { InputSeen::Parts });
-        self.from_input(log, way, Feed::Parts(if number % 3 == 0 { 7 } else { 1 }))
+        self.from_input(log, way, Feed::Parts(if number.is_multiple_of(3) { 7 } else { 1 }))
     }
 
     /// Tallies what has to come of a log.

@@ -58,7 +58,7 @@ fn passed_on(board: &Board, leg: u32, component: &[u8], record: &[u8]) -> Result
 /// The Tell to the party of an Active call. Message, description and subaddress request all
 /// follow from the indication.
 fn told(board: &Board, reference: u16, component: &[u8]) -> Result<Vec<u8>, u8> {
-    if reference % 0x8000 == 0 {
+    if reference.is_multiple_of(0x8000) {
         return Err(5);
     }
     let row = row_of(board, |call| call.reference == Reference(reference)).ok_or(9)?;

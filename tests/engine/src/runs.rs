@@ -21,7 +21,7 @@ pub trait Task: Copy {
     fn second(self) -> bool;
 
     /// What comes of octets on standard input.
-    fn from_input(self, octets: &[u8]) -> Ended;
+    fn on_input(self, octets: &[u8]) -> Ended;
 
     /// What comes of octets that could be read.
     fn done(self, octets: &[u8]) -> Ended;
@@ -79,7 +79,7 @@ impl<T: Task> Runs<T> {
     }
 
     pub fn from_input(&self, octets: &[u8], task: T, feed: Feed) -> Result<(), String> {
-        let expected = task.from_input(octets);
+        let expected = task.on_input(octets);
         self.runner.expect(&[task.word()], Input::Log(octets, feed), octets, &expected)
     }
 

@@ -12,8 +12,12 @@ use crate::seen_inform::{InformSeen, NumberSeen};
 use crate::seen_layout::LayoutSeen;
 use crate::seen_leg::LegSeen;
 use crate::seen_move::{MoveSeen, ToNewSeen, ToOldSeen};
+use crate::seen_name::NameSeen;
+use crate::seen_pin::PinSeen;
 use crate::seen_rules::{AmericanSeen, AnswerSeen, RuleSeen, TransferSeen};
 use crate::seen_run::{InputSeen, RunSeen};
+use crate::seen_screen::{AnswerLinesSeen, EventSeen, LineSeen, ReleaseLinesSeen, TransferLinesSeen};
+use crate::seen_script::{ScriptRunSeen, ScriptSeen};
 use crate::seen_type::{AnswerTypeSeen, ConsoleSeen, InformTypeSeen, OpenSeen, TransferTypeSeen, TypeSeen};
 use crate::seen_verdict::{ApartSeen, IdleSeen, PairSeen};
 
@@ -66,7 +70,7 @@ pub enum Alone {
 }
 
 /// The lists in their order, each with what its texts begin with.
-const LISTS: [(&str, &[&str]); 63] = [
+const LISTS: [(&str, &[&str]); 76] = [
     ("", Seen::TEXTS),
     ("", LegSeen::TEXTS),
     ("", InformSeen::TEXTS),
@@ -130,6 +134,19 @@ const LISTS: [(&str, &[&str]); 63] = [
     ("pack, ", ArchiveInputSeen::TEXTS),
     ("unpack, ", ArchiveInputSeen::TEXTS),
     ("", ArchiveWordSeen::TEXTS),
+    ("pin: ", PinSeen::TEXTS),
+    ("event with no line taken: ", EventSeen::TEXTS),
+    ("event with some lines taken: ", EventSeen::TEXTS),
+    ("event with all lines taken: ", EventSeen::TEXTS),
+    ("screen: ", LineSeen::TEXTS),
+    ("European: ", TransferLinesSeen::TEXTS),
+    ("American: ", TransferLinesSeen::TEXTS),
+    ("European: ", AnswerLinesSeen::TEXTS),
+    ("American: ", AnswerLinesSeen::TEXTS),
+    ("Release of a leg ", ReleaseLinesSeen::TEXTS),
+    ("name: ", NameSeen::TEXTS),
+    ("script: ", ScriptSeen::TEXTS),
+    ("run: ", ScriptRunSeen::TEXTS),
 ];
 
 /// The occurrences of so many lists.
@@ -153,10 +170,12 @@ pub struct Tally {
 }
 
 /// The lists of moved logs, counted where logs are played and where the program that moves them is
-/// run; those of its runs; and those of archives and of the program that makes them.
+/// run; those of its runs; those of archives and of the program that makes them; and those of the
+/// attendant's screen.
 const MOVES: usize = 41;
 const RUNS: usize = 45;
 const ARCHIVES: usize = 50;
+const SCREENS: usize = 63;
 
 impl Default for Tally {
     fn default() -> Tally {
@@ -172,7 +191,12 @@ impl Tally {
 
     /// For runs of the program that packs and unpacks logs.
     pub fn of_archives() -> Tally {
-        Tally { lists: ARCHIVES..LISTS.len(), ..Tally::default() }
+        Tally { lists: ARCHIVES..SCREENS, ..Tally::default() }
+    }
+
+    /// For runs of the program of the attendant's console.
+    pub fn of_screens() -> Tally {
+        Tally { lists: SCREENS..LISTS.len(), ..Tally::default() }
     }
 
     pub fn add(&mut self, seen: impl Occurrence) {

@@ -279,7 +279,7 @@ fn counts() {
 /// So many octets, of which the last record is 4 or 5.
 fn of_length(length: usize) -> Vec<u8> {
     let mut log = vec![2, 3];
-    while (length - log.len()) % 4 != 0 {
+    while !(length - log.len()).is_multiple_of(4) {
         log.extend(release(0xFFFF_FFFF));
     }
     while log.len() < length {

@@ -1,0 +1,2 @@
+-- Definitions that describe code, for its proofs.
+pub mod Redrawing

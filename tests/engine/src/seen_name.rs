@@ -1,0 +1,43 @@
+//! What occurs where a party's name is looked up. The part is what stands before the first comma.
+
+use crate::tally::{before, occurrences};
+
+occurrences! {
+    NameSeen, behind before(73);
+    NoComma = "no comma",
+    OneComma = "one comma, with octets before and behind",
+    Commas = "several commas, octets before, between and behind",
+    CommaLast = "a comma last and no other, octets before",
+    CommaFirst = "a comma first and no other, octets behind",
+    CommaFirstMore = "a comma first and another, octets between",
+    CommaAlone = "only a comma",
+    CommasAlone = "only commas, several",
+    CommasTogether = "two commas together, octets before",
+    BlankBefore = "a blank before the comma, octets before it",
+    BlankBehind = "a blank behind the comma",
+    BlankAlone = "blanks alone before a comma",
+    BlanksAlone = "blanks alone, no comma",
+    BlankFirst = "a blank first, octets behind it",
+    BlankLast = "a blank last, no comma",
+    OtherBlank = "a tab or a line feed at an end of the part",
+    EmptyLine = "an empty line, digits",
+    NoDigits = "a part, no digits",
+    EmptyBoth = "an empty line, no digits",
+    CommaNoDigits = "a comma first, no digits",
+    OneOctet = "a part of one octet",
+    Long = "a part of 128 octets or more",
+    Longest = "a line of 255 octets, no comma",
+    LongestFirst = "a line of 255 octets, a comma first",
+    LongestLast = "a line of 255 octets, a comma last and no other",
+    DigitsOne = "digits for the part, one octet",
+    DigitsMost = "digits for the part, 255 octets",
+    DigitsComma = "digits for the part, with a comma",
+    DigitsBlank = "digits for the part, with a blank at an end",
+    DigitsElse = "digits for the part, with an octet that is no digit",
+    Dash = "the name is a dash",
+    With00 = "a part with the octet 00",
+    With0A = "a part with the octet 0A",
+    WithFF = "a part with the octet FF",
+    WithAC = "a part with the octet AC, no comma but for one bit",
+    Shown = "with lines shown",
+}
