@@ -50,12 +50,12 @@ fn second_call(script: &mut Script) -> Reference {
 }
 
 /// Idle and Held are likelier.
-fn some_aux(script: &mut Script) -> Aux {
+pub fn some_aux(script: &mut Script) -> Aux {
     const AUX: [Aux; 4] = [Aux::Idle, Aux::Held, Aux::HoldRequest, Aux::RetrieveRequest];
     AUX[script.rng.weighted(&[46, 30, 12, 12])]
 }
 
-fn to(script: &mut Script, reference: Reference, aux: Aux) {
+pub fn to(script: &mut Script, reference: Reference, aux: Aux) {
     if aux != Aux::RetrieveRequest {
         return script.to_aux(reference, aux);
     }

@@ -82,7 +82,7 @@ fn watched(log: &[u8], rng: &mut Rng, tally: &mut Tally) -> Result<(), String> {
     Ok(())
 }
 
-fn same(program: &Program, log: &[u8], feed: Feed, expected: &[u8]) -> Result<(), String> {
+pub fn same(program: &Program, log: &[u8], feed: Feed, expected: &[u8]) -> Result<(), String> {
     let got = program.play(log, feed).map_err(|fault| format!("{fault}\nlog {}", hex(log)))?;
     compare(expected, &got).map_err(|difference| {
         let Difference { line, expected, got } = difference;

@@ -14,7 +14,7 @@ use engine::mover;
 use engine::play::{play, play_tested_once};
 use engine::rng::Rng;
 use engine::tally::Tally;
-use engine::{archives, load, moves, screens, timing};
+use engine::{archives, load, moves, orders, screens, timing};
 
 const USAGE: &str = "engine check PATH [SEED]   compare a player with the engine
 engine time PATH           speed of a player and of the engine
@@ -22,6 +22,7 @@ engine moves PATH [SEED]   compare a mover of logs with the engine
 engine archives PATH [SEED]
                            compare a packer of logs with the engine
 engine screens PATH [SEED] compare a program of the attendant's console with the engine
+engine orders PATH [SEED]  compare a player with the engine in either order of two events
 engine play [once]         play the log on standard input; once: the board is tested once
 engine move new|old [FILE] move the log on standard input, or in a file, to that form
 engine archive pack|unpack [FILE]
@@ -39,6 +40,7 @@ fn main() -> ExitCode {
         ["moves", path, seed @ ..] => run(seed, |seed| moves::against(path, seed)),
         ["archives", path, seed @ ..] => run(seed, |seed| archives::against(path, seed)),
         ["screens", path, seed @ ..] => run(seed, |seed| screens::against(path, seed)),
+        ["orders", path, seed @ ..] => run(seed, |seed| orders::against(path, seed)),
         ["time", path] => time(path),
         ["play"] => play_input(play),
         ["move", words @ ..] => return ended(mover::run(words, io::stdin()), mover::CANNOT_WRITE),

@@ -1,7 +1,7 @@
 //! Moving stored logs over: to the form in which an Open says the type of its number, and back.
 
 use crate::board::UNKNOWN;
-use crate::event::{Answer, Event, OPEN, OPEN_TYPED};
+use crate::event::{body_length, Answer, Event, OPEN, OPEN_TYPED};
 use crate::play::{next_record, start};
 use crate::records::TYPE_AT;
 
@@ -56,6 +56,11 @@ pub fn records(mut rest: &[u8]) -> impl Iterator<Item = &[u8]> {
         rest = after;
         Some(record)
     })
+}
+
+/// Those in front of one that is cut or of an unknown kind.
+pub fn whole_records(rest: &[u8]) -> impl Iterator<Item = &[u8]> {
+    records(rest).take_while(|record| body_length(record[0]) == Some(record.len() - 1))
 }
 
 /// What a record is bad by, or 0.

@@ -55,8 +55,9 @@ pub fn play_tested_once(log: &[u8], text: &mut Vec<u8>) -> u64 {
     })
 }
 
+/// The same with any step.
 #[inline]
-fn play_by(
+pub fn play_by(
     log: &[u8],
     text: &mut Vec<u8>,
     mut step: impl FnMut(&mut Board, &[u8], &mut [u8]) -> Answer,

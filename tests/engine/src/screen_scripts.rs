@@ -1,9 +1,9 @@
 //! The scripts that are compared: logs with pins and names between their events.
 
 use crate::draft::Draft;
-use crate::event::{body_length, OPEN, OPEN_TYPED};
+use crate::event::{OPEN, OPEN_TYPED};
 use crate::logs::steered;
-use crate::moving::records;
+use crate::moving::whole_records;
 use crate::play::start;
 use crate::records as make;
 use crate::rng::Rng;
@@ -54,7 +54,7 @@ fn between(rng: &mut Rng, log: &[u8], rest: &[u8]) -> (Vec<u8>, Vec<usize>, usiz
     let habit = &HABITS[rng.weighted(&[30, 25, 10, 10, 25])];
     let mut draft = Draft::new(rng, log[0], log[1]);
     let mut read = 2;
-    for record in records(rest).take_while(|record| body_length(record[0]) == Some(record.len() - 1)) {
+    for record in whole_records(rest) {
         beside(&mut draft, habit);
         draft.event(record);
         behind(&mut draft, record, habit);

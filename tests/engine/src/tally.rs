@@ -5,7 +5,9 @@ use std::ops::Range;
 pub use crate::seen::Seen;
 use crate::seen_archive::{ArchiveSeen, LogSeen, RefusedSeen};
 use crate::seen_archive_run::{ArchiveInputSeen, ArchiveRunSeen, ArchiveWordSeen};
+use crate::seen_around::{AroundSeen, ExchangedSeen, InFrontSeen};
 use crate::seen_carrier::CarrierSeen;
+use crate::seen_couple::{CoupleSeen, SecondSeen, StandSeen};
 use crate::seen_explicit::{AlikeSeen, ExecuteSeen};
 use crate::seen_history::HistorySeen;
 use crate::seen_inform::{InformSeen, NumberSeen};
@@ -14,6 +16,7 @@ use crate::seen_leg::LegSeen;
 use crate::seen_move::{MoveSeen, ToNewSeen, ToOldSeen};
 use crate::seen_name::NameSeen;
 use crate::seen_pin::PinSeen;
+use crate::seen_related::{BesideSeen, LeftOutSeen, OneSeen};
 use crate::seen_rules::{AmericanSeen, AnswerSeen, RuleSeen, TransferSeen};
 use crate::seen_run::{InputSeen, RunSeen};
 use crate::seen_screen::{AnswerLinesSeen, EventSeen, LineSeen, ReleaseLinesSeen, TransferLinesSeen};
@@ -70,7 +73,7 @@ pub enum Alone {
 }
 
 /// The lists in their order, each with what its texts begin with.
-const LISTS: [(&str, &[&str]); 76] = [
+const LISTS: [(&str, &[&str]); 108] = [
     ("", Seen::TEXTS),
     ("", LegSeen::TEXTS),
     ("", InformSeen::TEXTS),
@@ -147,6 +150,38 @@ const LISTS: [(&str, &[&str]); 76] = [
     ("name: ", NameSeen::TEXTS),
     ("script: ", ScriptSeen::TEXTS),
     ("run: ", ScriptRunSeen::TEXTS),
+    ("exchanged: a Progress accepted; ", SecondSeen::TEXTS),
+    ("exchanged: a Progress, 9; ", SecondSeen::TEXTS),
+    ("exchanged: a Progress, 11; ", SecondSeen::TEXTS),
+    ("exchanged: a Hold accepted; ", SecondSeen::TEXTS),
+    ("exchanged: a Hold, 9; ", SecondSeen::TEXTS),
+    ("exchanged: a Hold, 11; ", SecondSeen::TEXTS),
+    ("call state 3: ", StandSeen::TEXTS),
+    ("call state 7: ", StandSeen::TEXTS),
+    ("call state 4, Idle: ", StandSeen::TEXTS),
+    ("call state 4, Hold Request: ", StandSeen::TEXTS),
+    ("call state 4, Call Held: ", StandSeen::TEXTS),
+    ("call state 4, Retrieve Request: ", StandSeen::TEXTS),
+    ("call state 10, Idle: ", StandSeen::TEXTS),
+    ("call state 10, Hold Request: ", StandSeen::TEXTS),
+    ("call state 10, Call Held: ", StandSeen::TEXTS),
+    ("call state 10, Retrieve Request: ", StandSeen::TEXTS),
+    ("European: ", CoupleSeen::TEXTS),
+    ("American: ", CoupleSeen::TEXTS),
+    ("European: ", AroundSeen::TEXTS),
+    ("American: ", AroundSeen::TEXTS),
+    ("European: EctExecute right behind the two: ", InFrontSeen::TEXTS),
+    ("European: ExplicitEctExecute right behind the two: ", InFrontSeen::TEXTS),
+    ("American: ExplicitEctExecute right behind the two: ", InFrontSeen::TEXTS),
+    ("", ExchangedSeen::TEXTS),
+    ("Progress on one reference, beside it ", BesideSeen::TEXTS),
+    ("Hold on one reference, beside it ", BesideSeen::TEXTS),
+    ("Open of kind 1, beside it ", BesideSeen::TEXTS),
+    ("Open of kind 9, beside it ", BesideSeen::TEXTS),
+    ("Release, beside it ", BesideSeen::TEXTS),
+    ("Facility, beside it ", BesideSeen::TEXTS),
+    ("on one reference: ", OneSeen::TEXTS),
+    ("", LeftOutSeen::TEXTS),
 ];
 
 /// The occurrences of so many lists.
@@ -170,12 +205,13 @@ pub struct Tally {
 }
 
 /// The lists of moved logs, counted where logs are played and where the program that moves them is
-/// run; those of its runs; those of archives and of the program that makes them; and those of the
-/// attendant's screen.
+/// run; those of its runs; those of archives and of the program that makes them; those of the attendant's
+/// screen; and those of two events in either order.
 const MOVES: usize = 41;
 const RUNS: usize = 45;
 const ARCHIVES: usize = 50;
 const SCREENS: usize = 63;
+const ORDERS: usize = 76;
 
 impl Default for Tally {
     fn default() -> Tally {
@@ -196,7 +232,12 @@ impl Tally {
 
     /// For runs of the program of the attendant's console.
     pub fn of_screens() -> Tally {
-        Tally { lists: SCREENS..LISTS.len(), ..Tally::default() }
+        Tally { lists: SCREENS..ORDERS, ..Tally::default() }
+    }
+
+    /// For logs in either order of two events.
+    pub fn of_orders() -> Tally {
+        Tally { lists: ORDERS..LISTS.len(), ..Tally::default() }
     }
 
     pub fn add(&mut self, seen: impl Occurrence) {

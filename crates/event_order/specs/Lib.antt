@@ -1,0 +1,3 @@
+-- Two events in either order.
+pub mod EventOrder
+pub mod OneReference
