@@ -2,51 +2,49 @@
 use crate::text::{Hex, Shown};
 use crate::words;
 use component::{Answer, Operation};
-use hex::FromHexError;
 use invokes::write_invoke;
 use octets::InvokeIdentifier;
-use std::alloc::Global;
 use std::fmt;
-use thiserror::Error;
 
-// A component that is read, or an answer or an invoke that is written.
-#[derive(Drop)]
+// A component that is read, of so many octets, or an answer or an invoke that is written.
+#[derive(Clone, Copy)]
 pub enum Coding {
-    Read(Vec<u8>),
+    Read([u8; 32], usize),
     Answered(Answer),
     Written(InvokeIdentifier, Operation),
 }
 
-// What is wrong with the two fields of a coding.
-#[derive(Clone, Copy, Debug, Error)]
-pub enum Complaint {
-    #[error("{0}")]
-    Octets(FromHexError),
-    #[error("more than 32 octets")]
-    TooLong,
-    #[error("no such answer")]
-    NoSuchAnswer,
-    #[error("no such invoke")]
-    NoSuchInvoke,
+// What a coding says is written, which nothing is.
+#[derive(Clone, Copy)]
+pub enum Unknown {
+    Answer,
+    Invoke,
+}
+
+impl Unknown {
+    pub fn words(self) -> &'static str {
+        match self {
+            Unknown::Answer => "no such answer: ",
+            Unknown::Invoke => "no such invoke: ",
+        }
+    }
 }
 
 impl Coding {
     // What the list's second field says. The octets count where they are read; those of what is written are held to
     // the list when it is shown.
-    pub fn parse(alloc: Global, octets: &str, what: &str) -> Result<Coding, Complaint> {
-        if let Some(named) = what.strip_prefix("answer ") {
-            let answer = words::answer(named).ok_or(Complaint::NoSuchAnswer)?;
+    pub fn parse(octets: &[u8], what: &[u8]) -> Result<Coding, Unknown> {
+        if let Some(named) = what.strip_prefix(b"answer ") {
+            let answer = words::answer(named).ok_or(Unknown::Answer)?;
             return Ok(Coding::Answered(answer));
         }
-        if let Some(named) = what.strip_prefix("written ") {
-            let (identifier, asked) = words::invoke(named).ok_or(Complaint::NoSuchInvoke)?;
+        if let Some(named) = what.strip_prefix(b"written ") {
+            let (identifier, asked) = words::invoke(named).ok_or(Unknown::Invoke)?;
             return Ok(Coding::Written(identifier, asked));
         }
-        let octets = hex::decode(alloc, octets).map_err(Complaint::Octets)?;
-        if octets.len() > 32 {
-            return Err(Complaint::TooLong);
-        }
-        Ok(Coding::Read(octets))
+        let mut read = [0u8; 32];
+        let count = words::octets(octets, &mut read);
+        Ok(Coding::Read(read, count))
     }
 }
 
@@ -58,8 +56,8 @@ fn front(octets: &[u8], n: usize) -> &[u8] {
 impl fmt::Display for Coding {
     fn fmt<W: fmt::Write>(&self, f: &mut fmt::Formatter<W>) -> fmt::Result {
         match self {
-            Coding::Read(octets) => {
-                let octets = octets.as_slice();
+            Coding::Read(octets, count) => {
+                let octets = front(octets, *count);
                 write!(f, "{} ; {}", Hex(octets), Shown(component::read(octets)))
             }
             Coding::Answered(answer) => {

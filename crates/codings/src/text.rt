@@ -1,7 +1,7 @@
 // Octets in hex, and the component's values in the list's words.
 use component::{Answer, Operation, Reading, Reject};
 use octets::IntegerOctets;
-use std::fmt;
+use std::fmt::{self, Write};
 
 // `ect_cases` has its own, with the reason.
 #[derive(Clone, Copy)]
@@ -69,4 +69,23 @@ impl fmt::Display for Shown<Answer> {
             Answer::LinkIdResult(id, link) => write!(f, "linkid {} {}", Shown(id), link.0),
         }
     }
+}
+
+// What a text has still to be, while it is written.
+#[derive(Drop)]
+struct Held<'a> {
+    rest: Option<&'a [u8]>,
+}
+
+impl fmt::Write for Held<'_> {
+    fn write_str(&mut self, s: &str) -> fmt::Result {
+        self.rest = self.rest.and_then(|rest| rest.strip_prefix(s.as_bytes()));
+        Ok(())
+    }
+}
+
+// Whether a value is shown as these octets. Nothing is kept of its text.
+pub fn is_shown_as(value: &impl fmt::Display, octets: &[u8]) -> bool {
+    let mut held = Held { rest: Some(octets) };
+    write!(held, "{value}").is_ok() && held.rest == Some(&[])
 }

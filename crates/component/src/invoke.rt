@@ -36,7 +36,9 @@ pub fn is_ect_object(contents: &[u8], last: u8) -> bool
 fn read_link_id(id: IntegerOctets, s: &[u8]) -> Result<Operation, Reject>
     ensures { operation_read id result ≡ link_id_reading id (integer_in (first_element s.now)) }
 {
-    let (octets, _) = read_integer(s).ok_or(Reject::Invoke(id, MISTYPED_ARGUMENT))?;
+    let Some((octets, _)) = read_integer(s) else {
+        return Err(Reject::Invoke(id, MISTYPED_ARGUMENT));
+    };
     Ok(Operation::ExplicitEctExecute(LinkId::from(Integer::from(octets))))
 }
 
@@ -71,7 +73,9 @@ fn read_operation(id: IntegerOctets, s: &[u8]) -> Result<Operation, Reject>
     if let Some((octets, _)) = read_integer(s) {
         return read_local(id, octets);
     }
-    let (object, rest) = read_object(s).ok_or(Reject::General(id, MISTYPED_COMPONENT))?;
+    let Some((object, rest)) = read_object(s) else {
+        return Err(Reject::General(id, MISTYPED_COMPONENT));
+    };
     read_global(id, object, rest)
 }
 
@@ -93,7 +97,11 @@ pub fn contents(s: &[u8]) -> Option<&[u8]>
 pub fn read_framed(s: &[u8]) -> Result<(IntegerOctets, Operation), Reject>
     ensures { invoke_read result ≡ framed_reading s.now }
 {
-    let contents = contents(s).ok_or(Reject::Null(BADLY_STRUCTURED_COMPONENT))?;
-    let (id, rest) = read_integer(contents).ok_or(Reject::Null(MISTYPED_COMPONENT))?;
+    let Some(contents) = contents(s) else {
+        return Err(Reject::Null(BADLY_STRUCTURED_COMPONENT));
+    };
+    let Some((id, rest)) = read_integer(contents) else {
+        return Err(Reject::Null(MISTYPED_COMPONENT));
+    };
     Ok((id, read_operation(id, rest)?))
 }

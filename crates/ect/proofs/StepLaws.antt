@@ -14,6 +14,7 @@ use Rattle.ect.specs.Contract.{OutcomeOf}
 use Rattle.effects.specs.Code.Effects.{EffectOf, effect, effect_by, change_in, board_by}
 use Rattle.effects.proofs.EffectLaws.{board_is}
 use Rattle.replies.specs.Code.Writing.{rendered, written}
+use Rattle.replies.proofs.WritingLaws.{rendered_written}
 use Rattle.ect.specs.declared.Stepped.{Stepped}
 use Rattle.events.specs.declared.Refusal.{Refusal}
 use Rattle.rules.specs.Checks.{Refuse, Accept, Decision, returned_by}
@@ -65,7 +66,7 @@ module _ (b : Board) where
       record {
         returned = refl;
         board = board_is (Accept x w) (record { is = h });
-        octets_are = ap (λ (v : Effect). written v.out) z;
+        octets_are = ap (λ (v : Effect). written v.out) z ∙ rendered_written (w (number_at b.rows));
       }
 
 module _ (tested : Bool) (b : Board) (os before : List ℕ) where

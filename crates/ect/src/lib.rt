@@ -58,10 +58,7 @@ fn answered(
         (stepped result.0 (board_by result.1 board.now)) reply.new }
 {
     match accepted(board, is_sound, event, reply.len()) {
-        Ok(effect) => (
-            Ok(copy_out(reply, effect.out.octets.as_slice())),
-            effect.change,
-        ),
+        Ok(effect) => (Ok(copy_out(reply, effect.out.written())), effect.change),
         Err(refusal) => (Err(refusal), None),
     }
 }

@@ -1,17 +1,15 @@
 -- What an effect says of its decision, and what a request says of its record.
-use Rattle.std.specs.Prelude.{None, Ok, Option, Some}
+use Rattle.std.specs.Prelude.{None, Option, Result, Some}
 use lib.Dec.{eqb, leb}
 use lib.ListN.{length, drop}
 use Prim.Native.Nat.{ℕ, ◌≤◌}
-use native.Mathlib.Omega.{arith}
 use mathlib.Core.Path.{◌≡◌, ◌∙◌, ap, refl}
 use mathlib.Core.Bool.{◌&&◌}
 use mathlib.Core.List.{List}
 use Rattle.board.specs.declared.Board.{Board}
-use Rattle.effects.specs.Code.Effects.{EffectOf, effect, change_in, board_by}
+use Rattle.effects.specs.Code.Effects.{EffectOf, change_in, change_by, board_by}
 use Rattle.effects.specs.declared.Effect.{Effect}
-use Rattle.replies.specs.Code.Writing.{rendered}
-use Rattle.rules.specs.Replies.{number_at}
+use Rattle.events.specs.declared.Refusal.{Refusal}
 use borrow.Author.Tests.{leb-true}
 use Rattle.board.specs.Soundness.{zeros}
 use Rattle.octets.proofs.Lists.{left, right}
@@ -31,17 +29,11 @@ change_board None b = refl
 change_board (Some (checks.Enter p n)) b = refl
 change_board (Some (checks.Apply c)) b = refl
 
--- an accepted effect of a decision makes the board of the decision
-pub board_is : {e : Effect} {b : Board} (d : Decision) → EffectOf (Ok e) b d → board_by e.change b ≡ board_after d b
+-- the effect of a decision makes the board of the decision: the same board, where it is refused
+pub board_is : {r : Result Effect Refusal} {b : Board} (d : Decision) → EffectOf r b d → board_by (change_by r) b ≡ board_after d b
 unfolding board_after
-board_is (Refuse r) k =
-    let h = k.is in
-    let z : ◌≡◌ {A = ℕ} 0 1 = cc in
-    absurd (omega arith)
-board_is {e} {b} (Accept x w) k =
-    let h = k.is in
-    let z : e ≡ effect (change_in x) (rendered (w (number_at b.rows))) = cc in
-    ap (λ (v : Effect). board_by v.change b) z ∙ change_board x b
+board_is {b = b} (Refuse c) k = ap (λ (v : Result Effect Refusal). board_by (change_by v) b) k.is ∙ change_board None b
+board_is {b = b} (Accept x w) k = ap (λ (v : Result Effect Refusal). board_by (change_by v) b) k.is ∙ change_board x b
 
 -- the count of a Leg facility is in range
 pub count_in_range : (os : List ℕ) {l n : ℕ} {c : List ℕ} → request os ≡ LegFacility l n c → n ≤ 64

@@ -38,7 +38,7 @@ pub enum ChangeKind {
 }
 
 // What an accepted event comes to. It has no board: the board is changed in place, once, by the change.
-#[derive(Drop)]
+#[derive(Clone, Copy)]
 pub struct Effect {
     pub change: Option<ChangeKind>,
     pub out: Out,

@@ -51,7 +51,9 @@ pub fn only_element(s: &[u8]) -> Option<FirstElement<'_>>
 pub fn read_element(s: &[u8], depth: u8) -> Option<FirstElement<'_>>
     ensures { element_of result ≡ checked (whole_elements depth) (first_element s.now) }
 {
-    let element = first_element(s)?;
+    let Some(element) = first_element(s) else {
+        return None;
+    };
     if element.tag / 32 % 2 == 1 && !are_elements(element.contents, depth) {
         return None;
     }

@@ -11,7 +11,9 @@ use octets::IntegerOctets;
 pub fn read_integer_octets(s: &[u8]) -> Option<(IntegerOctets, &[u8])>
     ensures { integer_read result ≡ with_rest (integer_octets_in (first_element s.now)) (first_element s.now) }
 {
-    let element = first_element(s)?;
+    let Some(element) = first_element(s) else {
+        return None;
+    };
     if element.tag != 0x02 {
         return None;
     }
@@ -33,7 +35,9 @@ pub fn read_integer(s: &[u8]) -> Option<(IntegerOctets, &[u8])>
 pub fn read_object(s: &[u8]) -> Option<(&[u8], &[u8])>
     ensures { object_read result ≡ with_rest (object_in (first_element s.now)) (first_element s.now) }
 {
-    let element = first_element(s)?;
+    let Some(element) = first_element(s) else {
+        return None;
+    };
     if element.tag != 0x06 {
         return None;
     }

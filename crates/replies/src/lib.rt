@@ -6,7 +6,7 @@ ghost use Rattle.rules.specs.Replies.{Reply, Tell, Drop, Gone, PassOn, octets, r
 ghost use Rattle.rules.specs.Replies.{mark_only, number_as_told, typed, untyped_tell, typed_tell, told};
 ghost use Rattle.rules.specs.Replies.{facility, transferred_active, given, inform_record, answering_party_told};
 ghost use Rattle.octets.specs.Numbers.{four};
-ghost use Rattle.replies.specs.Code.Writing.{rendered, transfer_records};
+ghost use Rattle.replies.specs.Code.Writing.{out_of, rendered, written, transfer_records};
 ghost use Rattle.replies.specs.Code.Writing.{message_number, description_number, request_number};
 
 use Description::{TransferredActive, TransferredAlerting};
@@ -32,10 +32,18 @@ enum Description {
     TransferredActive = 0xea,
 }
 
-// The octets of an event's replies, at most 128: the buffer that the rules ask for.
-#[derive(Drop)]
+// The octets of an event's replies, at most 128, the buffer that the rules ask for: the first `len`, and zeros behind
+// them. An array, so that callers copy it like any value.
+#[derive(Clone, Copy)]
 pub struct Out {
-    pub octets: ArrayVec<u8, 128>,
+    pub octets: [u8; 128],
+    pub len: usize,
+}
+
+// The octets of the records so far.
+#[derive(Drop)]
+struct Records {
+    octets: ArrayVec<u8, 128>,
 }
 
 // A far party of a transfer: its call with the served user, its leg, whether that alerts, and its number.
@@ -218,8 +226,17 @@ fn pass_on_record(leg: u32, count: u8, component: [u8; 64]) -> [u8; 70]
 }
 
 impl Out {
+    // The octets written.
+    pub fn written(&self) -> &[u8]
+        ensures { result.now ≡ written self.now }
+    {
+        self.octets.get(..self.len).unwrap_or(&self.octets)
+    }
+}
+
+impl Records {
     // With one record more.
-    fn with(mut self, octets: &[u8]) -> Out
+    fn with(mut self, octets: &[u8]) -> Records
         requires { length self.octets.items + length octets.now ≤ 128 }
         ensures items { result.octets.items ≡ self.octets.items ++ octets.now }
         ensures len { length result.octets.items ≡ length self.octets.items + length octets.now }
@@ -237,7 +254,7 @@ impl Out {
         description: Description,
         number: TellNumber,
         request: bool,
-    ) -> Out
+    ) -> Records
         requires { length self.octets.items ≤ 102 }
         ensures items { result.octets.items ≡ self.octets.items ++ octets
             (Tell leg (message_number message) (description_number description) number (request_number request) ∷ []) }
@@ -250,7 +267,7 @@ impl Out {
     }
 
     // With what a transfer tells a party of the other: by American rules nothing while it alerts.
-    fn told(self, rules: RuleSet, party: FarParty, other: FarParty) -> Out
+    fn told(self, rules: RuleSet, party: FarParty, other: FarParty) -> Records
         requires { length self.octets.items ≤ 102 }
         ensures items { result.octets.items ≡ self.octets.items ++ octets
             (told rules party.leg party.alerts other.alerts other.number) }
@@ -271,13 +288,30 @@ impl Out {
     }
 
     // With what an answer tells a leg of the other's number.
-    fn answered(self, leg: u32, number: TellNumber) -> Out
+    fn answered(self, leg: u32, number: TellNumber) -> Records
         requires { length self.octets.items ≤ 102 }
         ensures items { result.octets.items ≡ self.octets.items
             ++ octets (Tell leg facility transferred_active number 0 ∷ []) }
         ensures len { length result.octets.items ≤ length self.octets.items + 26 }
     {
         self.tell(leg, Facility, TransferredActive, number, false)
+    }
+
+    fn finish(self) -> Out
+        ensures { result ≡ out_of self.octets.items }
+    {
+        let len = self.octets.len();
+        let mut octets = [0u8; 128];
+        octets[..len].copy_from_slice(self.octets.as_slice());
+        Out { octets, len }
+    }
+}
+
+fn no_records() -> Records
+    ensures { result.octets.items ≡ [] }
+{
+    Records {
+        octets: ArrayVec::new(),
     }
 }
 
@@ -286,9 +320,7 @@ impl Out {
 pub fn nothing() -> Out
     ensures { result ≡ rendered [] }
 {
-    Out {
-        octets: ArrayVec::new(),
-    }
+    no_records().finish()
 }
 
 // The answer to a component.
@@ -296,7 +328,7 @@ pub fn nothing() -> Out
 pub fn reply(reference: CallReference, answer: Answer) -> Out
     ensures { result ≡ rendered (Reply reference.0 answer ∷ []) }
 {
-    nothing().with(&reply_record(reference, answer))
+    no_records().with(&reply_record(reference, answer)).finish()
 }
 
 // The release of a served call.
@@ -304,7 +336,7 @@ pub fn reply(reference: CallReference, answer: Answer) -> Out
 pub fn drop_notice(reference: CallReference) -> Out
     ensures { result ≡ rendered (Drop reference.0 ∷ []) }
 {
-    nothing().with(&drop_record(reference))
+    no_records().with(&drop_record(reference)).finish()
 }
 
 // The release of a joined leg, told to its partner.
@@ -312,7 +344,7 @@ pub fn drop_notice(reference: CallReference) -> Out
 pub fn gone(leg: u32) -> Out
     ensures { result ≡ rendered (Gone leg ∷ []) }
 {
-    nothing().with(&gone_record(leg))
+    no_records().with(&gone_record(leg)).finish()
 }
 
 // What an answer tells the partner and, by American rules, after that the leg that answers, each of the other's number.
@@ -321,10 +353,10 @@ pub fn answer_told(rules: RuleSet, answering: NumberedLeg, partner: NumberedLeg)
     ensures { result ≡ rendered (Tell partner.leg facility transferred_active answering.number 0
         ∷ answering_party_told rules answering.leg partner.number) }
 {
-    let told = nothing().answered(partner.leg, answering.number);
+    let told = no_records().answered(partner.leg, answering.number);
     match rules {
-        RuleSet::European => told,
-        RuleSet::American => told.answered(answering.leg, partner.number),
+        RuleSet::European => told.finish(),
+        RuleSet::American => told.answered(answering.leg, partner.number).finish(),
     }
 }
 
@@ -333,7 +365,9 @@ pub fn answer_told(rules: RuleSet, answering: NumberedLeg, partner: NumberedLeg)
 pub fn pass_on(partner: u32, count: u8, component: [u8; 64]) -> Out
     ensures { result ≡ rendered (PassOn partner count component ∷ []) }
 {
-    nothing().with(&pass_on_record(partner, count, component))
+    no_records()
+        .with(&pass_on_record(partner, count, component))
+        .finish()
 }
 
 // What a private exchange says of a call, told to its far party. While the other call alerts the number is ignored.
@@ -341,14 +375,35 @@ pub fn pass_on(partner: u32, count: u8, component: [u8; 64]) -> Out
 pub fn inform_told(leg: u32, indication: Indication, number: TellNumber) -> Out
     ensures { result ≡ rendered (inform_record leg indication number ∷ []) }
 {
-    match indication {
-        Indication::Alerting => nothing().tell(leg, Notify, TransferredAlerting, unknown(), false),
-        Indication::Active => nothing().tell(leg, Facility, TransferredActive, number, true),
-    }
+    let none = no_records();
+    let told = match indication {
+        Indication::Alerting => none.tell(leg, Notify, TransferredAlerting, unknown(), false),
+        Indication::Active => none.tell(leg, Facility, TransferredActive, number, true),
+    };
+    told.finish()
 }
 
 // The records of a transfer, the Reply on the reference of the event.
-#[tactic(auto, using(rules::proofs::Lengths::both_octets), unfolding(crate::specs::Code::Writing::rendered, rules::specs::Replies::octets, component::specs::Answers::answer_octets))]
+#[tactic(auto, using(rules::proofs::Lengths::both_octets), unfolding(rules::specs::Replies::octets, component::specs::Answers::answer_octets))]
+fn transferred(
+    rules: RuleSet,
+    reference: CallReference,
+    identifier: IntegerOctets,
+    named: FarParty,
+    other: FarParty,
+) -> Records
+    ensures { result.octets.items ≡ octets (transfer_records rules reference identifier named other) }
+{
+    no_records()
+        .with(&reply_record(reference, Answer::Result(identifier)))
+        .with(&drop_record(named.reference))
+        .with(&drop_record(other.reference))
+        .told(rules, named, other)
+        .told(rules, other, named)
+}
+
+// What a transfer writes.
+#[tactic(auto, unfolding(crate::specs::Code::Writing::rendered))]
 pub fn transfer(
     rules: RuleSet,
     reference: CallReference,
@@ -358,10 +413,5 @@ pub fn transfer(
 ) -> Out
     ensures { result ≡ rendered (transfer_records rules reference identifier named other) }
 {
-    nothing()
-        .with(&reply_record(reference, Answer::Result(identifier)))
-        .with(&drop_record(named.reference))
-        .with(&drop_record(other.reference))
-        .told(rules, named, other)
-        .told(rules, other, named)
+    transferred(rules, reference, identifier, named, other).finish()
 }

@@ -52,10 +52,13 @@ fn join(row: &mut Row, a: u32, b: u32)
 fn end_alerting(row: &mut Row, leg: u32)
     ensures { row.new ≡ map_standing (alerting_ended leg) row.old }
 {
-    if let Standing::Joined { partner, alerting } = row.standing {
+    if row.leg != leg {
+        return;
+    }
+    if let Standing::Joined { partner, .. } = row.standing {
         row.standing = Standing::Joined {
             partner,
-            alerting: alerting && leg != row.leg,
+            alerting: false,
         };
     }
 }

@@ -1,12 +1,13 @@
 -- Two rows compared by what their entries are compared by.
-use Rattle.std.specs.Prelude.{ℕ, None, Option, Some, Bool, false, ◌&&◌, ◌||◌, not, eqb, ℤ}
+use Rattle.std.specs.Prelude.{ℕ, None, Option, Some, Bool, true, false, ◌&&◌, ◌||◌, not, eqb, ℤ}
 use Rattle.std.specs.Ordering.{int_eq}
 use Rattle.std.proofs.lemmas.Bool.Decides.{Decides-int_eq}
 use mathlib.Core.Path.{◌≡◌, refl, sym, ap, ap₂, ◌∙◌}
 use mathlib.Core.Bool.{and-false, or_assoc}
+use borrow.Author.Tests.{ne_eqb}
 use Rattle.octets.specs.declared.LinkId.{LinkId}
 use Rattle.octets.specs.Numbers.{same_integer}
-use Rattle.octets.specs.Tests.{none_or, has, has_both}
+use Rattle.octets.specs.Tests.{none_or, has, has_both, bit}
 use Rattle.octets.proofs.Lists.{same_tests}
 use Rattle.octets.proofs.SameInteger.{same_integer_eq, same_integer_self}
 use Rattle.board.specs.declared.Standing.{Standing}
@@ -66,6 +67,10 @@ clash_by_keys a b = clash_of (row_entry a) (row_entry b)
 
 -- ---- partners
 
+pub bit_one : (b : Bool) → eqb (bit b) 1 ≡ b
+bit_one true = refl
+bit_one false = refl
+
 -- a joined leg that is not its own partner and is answered by o
 abbrev pub joined_pair : Option JoinedLeg → JoinedLeg → Bool
 joined_pair o j = not (eqb j.leg j.partner) && has (answers_joined j) o
@@ -77,8 +82,12 @@ paired_at m n Empty t = refl
 paired_at m n (Served c) t = refl
 paired_at m n (Joined p a) Empty = refl
 paired_at m n (Joined p a) (Served d) = rw (and-false (eqb p n))
-paired_at m n (Joined p a) (Joined q b) = refl
+paired_at m n (Joined p a) (Joined q b) = rw (bit_one a, bit_one b)
 
 pub paired_by_legs : (a b : Row) → paired a b ≡ none_or (joined_pair (in_row joined_in b)) (in_row joined_in a)
 unfolding paired
 paired_by_legs a b = paired_at a.leg b.leg a.standing b.standing
+
+-- of two joined legs
+pub paired_joined : (a b : Row) {j k : JoinedLeg} → in_row joined_in a ≡ Some j → in_row joined_in b ≡ Some k → (j.leg ≡ j.partner → ⊥) → answers_joined j k ≡ paired a b
+paired_joined a b {j} d e h = rw (paired_by_legs a b, d, e, ne_eqb j.leg j.partner h)

@@ -8,12 +8,12 @@ use board::finding::is_occupied;
 use board::{Row, Standing};
 use octets::{CallReference, LinkId};
 
-// A joined leg, its partner, and whether it alerts.
+// A joined leg, its partner, and 1 where it alerts: a number and no flag, as `answers` is told of any.
 #[derive(Clone, Copy, Default)]
 pub struct JoinedLeg {
     pub leg: u32,
     pub partner: u32,
-    pub alerting: bool,
+    pub alerting: u32,
 }
 
 pub fn leg(row: Row) -> Option<u32>
@@ -47,7 +47,7 @@ pub fn joined_leg(row: Row) -> Option<JoinedLeg>
         Standing::Joined { partner, alerting } => Some(JoinedLeg {
             leg: row.leg,
             partner,
-            alerting,
+            alerting: u32::from(alerting),
         }),
         _ => None,
     }
@@ -57,5 +57,5 @@ pub fn joined_leg(row: Row) -> Option<JoinedLeg>
 pub fn answers(a: JoinedLeg, b: JoinedLeg) -> bool
     ensures { result ≡ answers_joined a b }
 {
-    a.partner == b.leg && a.leg == b.partner && !(a.alerting && b.alerting)
+    a.partner == b.leg && a.leg == b.partner && !(a.alerting == 1 && b.alerting == 1)
 }

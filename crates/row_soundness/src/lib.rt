@@ -4,14 +4,13 @@
 ghost use Rattle.std.specs.Prelude.{◌≡◌};
 ghost use Rattle.octets.specs.Tests.{has_both};
 ghost use Rattle.board.specs.States.{valid_direction, holdable, valid_call};
-ghost use Rattle.board.specs.Soundness.{valid_standing};
+ghost use Rattle.board.specs.Soundness.{valid_standing, zeros};
 ghost use Rattle.board.specs.Code.RowTests.{fits, clash, paired};
 ghost use Rattle.board.specs.Code.Tallies.{row_tally};
 
 use board::finding::is_occupied;
 use board::{
-    AuxiliaryState, Call, CallState, Direction, Row, Standing, Tally, empty_row, valid_number,
-    valid_reference,
+    AuxiliaryState, Call, CallState, Direction, Row, Standing, Tally, valid_number, valid_reference,
 };
 use keys::{answers, joined_leg, leg, link, reference};
 
@@ -41,11 +40,27 @@ fn call_valid(call: Call) -> bool
         && (call.auxiliary == AuxiliaryState::Idle || is_holdable(call.state))
 }
 
+// Whether each is zero. No way out of the loop: so it compiles to few instructions, and most rows are empty.
+fn no_digits(digits: &[u8; 15]) -> bool
+    ensures { result ≡ zeros digits.now }
+{
+    let mut none = true;
+    for digit in digits {
+        none = none & (*digit == 0);
+    }
+    none
+}
+
 #[tactic(auto, using(crate::proofs::ZeroNumber::zero_is))]
 fn empty_fits(row: Row) -> bool
     ensures { result ≡ valid_standing row.leg row.number Standing.Empty }
 {
-    row.leg == 0 && row.number == empty_row().number
+    let number = row.number;
+    row.leg == 0
+        && number.presentation == 0
+        && number.type_of_number == 0
+        && number.count == 0
+        && no_digits(&number.digits)
 }
 
 // The fields of one row obey their rules.

@@ -5,7 +5,7 @@ use mathlib.Core.Bool.{Bool, true, false, ◌&&◌, not, and-false, and_assoc}
 use mathlib.Core.List.{List}
 use Rattle.octets.specs.declared.LinkId.{LinkId}
 use Rattle.octets.specs.Lists.{any, all, distinct, filter_map}
-use Rattle.octets.specs.Tests.{has, none_or, has_both}
+use Rattle.octets.specs.Tests.{has, none_or, has_both, bit}
 use Rattle.octets.proofs.Lists.{filter_ext, all_ext, any_ext}
 use Rattle.octets.proofs.Loops.{distinct_filter_map, distinct_ext, length_filter_map, all_filter_map, any_filter_map}
 use Rattle.octets.proofs.Places.{filter_map_filter_map}
@@ -19,7 +19,7 @@ use Rattle.board.specs.Code.RowTests.{fits}
 use Rattle.board.proofs.Rows.{fits_all}
 use Rattle.row_soundness.specs.declared.keys.JoinedLeg.{JoinedLeg}
 use Rattle.row_soundness.specs.Code.RowKeys.{leg_in, reference_in, call_link_of, link_in, same_reference, same_link, joined_leg_of, joined_in, answers_joined}
-use Rattle.row_soundness.proofs.KeyLaws.{both_references, both_links}
+use Rattle.row_soundness.proofs.KeyLaws.{both_references, both_links, bit_one}
 use Rattle.soundness.specs.declared.Columns.{Columns}
 use Rattle.soundness.specs.Code.Columns.{column, columns_of, gathered, all_answered, sound_columns}
 
@@ -62,14 +62,14 @@ module _ (es : List Entry) where
       right j = not (eqb j.leg j.partner) && any (answers_joined j) (filter_map joined_in es)
 
       answers_at : (n p : ℕ) (a : Bool) (m : ℕ) (k : Connection) →
-          answers_to n p a (entry m k) ≡ has (answers_joined (record { leg = n; partner = p; alerting = a })) (joined_leg_of m k)
+          answers_to n p a (entry m k) ≡ has (answers_joined (record { leg = n; partner = p; alerting = bit a })) (joined_leg_of m k)
       answers_at n p a m (WithUser c) = and-false (eqb p m)
-      answers_at n p a m (WithPartner q b) = refl
+      answers_at n p a m (WithPartner q b) = rw (bit_one a, bit_one b)
 
       one : (n : ℕ) (k : Connection) → valid_partner es n k ≡ none_or right (joined_leg_of n k)
       one n (WithUser c) = refl
       one n (WithPartner p a) =
-          let j : JoinedLeg = record { leg = n; partner = p; alerting = a } in
+          let j : JoinedLeg = record { leg = n; partner = p; alerting = bit a } in
           ap (λ (b : Bool). not (eqb n p) && b)
           (any_ext (answers_to n p a) (λ (f : Entry). has (answers_joined j) (joined_in f)) es (λ f. answers_at n p a f.leg f.connection)
           ∙ sym (any_filter_map joined_in (answers_joined j) es))

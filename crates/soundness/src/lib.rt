@@ -13,6 +13,7 @@ ghost use Rattle.row_soundness.specs.Code.RowKeys.{answers_joined};
 ghost use Rattle.soundness.specs.Code.Columns.{one_or_none, gathered, sound_columns, all_answered};
 
 use arrayvec::ArrayVec;
+use board::finding::is_occupied;
 use board::{Board, Counts, MOST_LINK_IDS, Row, Tally, Unsound, valid_options};
 use octets::{CallReference, LinkId};
 use row_soundness::keys::{JoinedLeg, answers, joined_leg, leg, link, reference};
@@ -93,10 +94,13 @@ fn gather(rows: &[Row; 64]) -> Option<Columns>
         if !row_fits(*row) {
             return None;
         }
-        add(&mut columns.legs, leg(*row));
-        add(&mut columns.references, reference(*row));
-        add(&mut columns.links, link(*row));
-        add(&mut columns.joined, joined_leg(*row));
+        // An empty row has nothing to add, and most are.
+        if is_occupied(row.standing) {
+            add(&mut columns.legs, leg(*row));
+            add(&mut columns.references, reference(*row));
+            add(&mut columns.links, link(*row));
+            add(&mut columns.joined, joined_leg(*row));
+        }
     }
     Some(columns)
 }

@@ -36,6 +36,11 @@ change_in None = None
 change_in (Some (checks.Enter p n)) = Some (Enter (entered_row p n))
 change_in (Some (checks.Apply c)) = Some (Apply c)
 
+-- the change that comes of an effect: none, where it is refused
+abbrev pub change_by : Result Effect Refusal → Option ChangeKind
+change_by (Err c) = None
+change_by (Ok e) = e.change
+
 -- the board that a change makes of b
 abbrev pub board_by : Option ChangeKind → Board → Board
 board_by None b = b

@@ -1,5 +1,5 @@
 -- The replies of an event as a value, and the numbers of what a far party is told.
-use Rattle.std.specs.Prelude.{ℕ, Bool, true, false, List, ◌∷◌, ◌++◌}
+use Rattle.std.specs.Prelude.{ℕ, ◌-◌, Bool, true, false, List, ◌∷◌, ◌++◌, length, take, replicate}
 use Rattle.octets.specs.declared.CallReference.{CallReference}
 use Rattle.octets.specs.declared.IntegerOctets.{IntegerOctets}
 use Rattle.component.specs.declared.Answer.TheVariants as answer
@@ -13,13 +13,17 @@ use Rattle.replies.specs.declared.Description.TheVariants.{TransferredAlerting, 
 use Rattle.rules.specs.Replies.{ReplyRecord, Reply, octets, drops, told, facility, notify, transferred_alerting}
 use Rattle.rules.specs.Replies.{transferred_active}
 
--- the octets of the records, in their order
+-- octets as a value, with zeros behind them
+abbrev pub out_of : List ℕ → Out
+out_of os = record { octets = os ++ replicate (128 - length os) 0; len = length os }
+
+-- the octets of the records, in their order, and zeros behind them
 unfoldable pub rendered : List ReplyRecord → Out
-rendered rs = record { octets = record { items = octets rs } }
+rendered rs = out_of (octets rs)
 
 -- the octets written
 abbrev pub written : Out → List ℕ
-written o = o.octets.items
+written o = take o.len o.octets
 
 abbrev pub message_number : Message → ℕ
 message_number Facility = facility

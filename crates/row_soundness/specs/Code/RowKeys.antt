@@ -4,7 +4,7 @@ use Rattle.std.specs.Prelude.{ℕ, Bool, None, Option, Some, eqb}
 use Rattle.std.specs.Ordering.{int_eq}
 use Rattle.octets.specs.declared.CallReference.{CallReference}
 use Rattle.octets.specs.declared.LinkId.{LinkId}
-use Rattle.octets.specs.Tests.{bind_option}
+use Rattle.octets.specs.Tests.{bind_option, bit}
 use Rattle.board.specs.declared.Connection.{Connection}
 use Rattle.board.specs.declared.Connection.TheVariants.{WithUser, WithPartner}
 use Rattle.board.specs.declared.Entry.{Entry}
@@ -34,7 +34,7 @@ link_in e = call_link_of e.connection
 
 abbrev pub joined_leg_of : ℕ → Connection → Option JoinedLeg
 joined_leg_of n (WithUser c) = None
-joined_leg_of n (WithPartner p a) = Some (record { leg = n; partner = p; alerting = a })
+joined_leg_of n (WithPartner p a) = Some (record { leg = n; partner = p; alerting = bit a })
 
 abbrev pub joined_in : Entry → Option JoinedLeg
 joined_in e = joined_leg_of e.leg e.connection
@@ -55,8 +55,8 @@ same_link k l = int_eq k.0 l.0
 -- ---- joined legs
 
 abbrev pub joined_entry : JoinedLeg → Entry
-joined_entry j = record { leg = j.leg; connection = WithPartner j.partner j.alerting }
+joined_entry j = record { leg = j.leg; connection = WithPartner j.partner (eqb j.alerting 1) }
 
 -- the leg b answers to a
 abbrev pub answers_joined : JoinedLeg → JoinedLeg → Bool
-answers_joined a b = answers_to a.leg a.partner a.alerting (joined_entry b)
+answers_joined a b = answers_to a.leg a.partner (eqb a.alerting 1) (joined_entry b)
